@@ -4,8 +4,15 @@ from .places import Text, at, header_line, named, steps, tables
 from .rules import CHOICES, HEX, MOST, NUMBERS, SAMPLES, TRUTHS, keys, listed, one_of, shown, toml
 from .slots import Slot
 
+# The most words of a data set.
+MOST_WORDS = 125
 REFERENCES = {("group", "keygroup"), ("readgroup", "keygroup"), ("readgroup", "group"), ("group.writer", "dataset"), ("readgroup.reader", "dataset"),
               ("readgroup.reader", "writer")}
+
+
+def header(table):
+    """The table as its header has it."""
+    return {".": "the document", "publisher": "[publisher]"}.get(table, f"[[{table}]]")
 
 
 def is_number(value):
@@ -67,13 +74,14 @@ class Refused:
 
     @property
     def kind(self):
-        return {".": "the document", "publisher": "[publisher]"}.get(self.table, f"[[{self.table}]]")
+        return header(self.table)
 
     def first(self, test):
         return next((key for key in self.it if test(key, self.it[key])), None)
 
     def names(self, outer):
-        return [it["name"] for it in self.doc.get(outer, []) if isinstance(it.get("name"), str)]
+        found = self.doc.get(outer)
+        return [it["name"] for it in found if isinstance(it, dict) and isinstance(it.get("name"), str)] if isinstance(found, list) else []
 
     def earlier(self, key, group):
         """The table before this one that has the same value at the key, of those that are judged with it."""
@@ -86,6 +94,8 @@ class Refused:
 
     def sample(self, key):
         """A value that is right for a key of this table."""
+        if wanted(self.table, key) == "an array of tables":
+            return f"[{{..}}]`, or `[[{key if self.table == '.' else f'{self.table}.{key}'}]]"
         if wanted(self.table, key) == "a whole number":
             default = int(self.listed[key][1]) if self.listed[key][1].isdigit() else 0
             return SAMPLES.get(key, str(max(NUMBERS[key][0], default)))
@@ -94,7 +104,7 @@ class Refused:
         if key in HEX:
             return '"' + "0" * self.digits(key)[0] + '"' if key == "random" else f'"..", {self.digits(key)[0]} hexadecimal digits'
         text = SAMPLES["publisher"] if (self.table, key) == ("publisher", "id") else SAMPLES.get(key, '"a_1"')
-        return {"a truth value": "true", "a table": '{id = "u8:5"}', "an array of tables": "[]"}.get(wanted(self.table, key), text)
+        return {"a truth value": "true", "a table": '{id = "u8:5"}'}.get(wanted(self.table, key), text)
 
     def digits(self, key):
         return (64 if self.outer.get("policy") == "aes256" else 32,) if key == "encrypting" else HEX[key]
@@ -186,7 +196,9 @@ class Refused:
         return f"`{shown(self.key)} = {toml(self.value)}`"
 
     def there_2(self):
-        return f"{self.kind} has no key `{shown(self.key)}`", one_of(self.key, self.listed, "its keys are")
+        others = [header(table) for table, rows in keys().items() if self.key in rows]
+        wrong = f"{self.kind} has no key `{shown(self.key)}`" + (f", which is one of {listed(others, form='{}')}" if others else "")
+        return wrong, one_of(self.key, self.listed, "its keys are")
 
     def there_3(self):
         return f"{self.kind} has no `{self.key}`", f"`{self.key} = {self.sample(self.key)}`"
@@ -197,6 +209,8 @@ class Refused:
         same = text if want == "a whole number" and re.fullmatch(r"-?(0|[1-9]\d*)", text) or want == "a truth value" and text in ("true", "false") else None
         if is_number(self.value) and "publisher" in (self.key, self.table) and 0 <= self.value < 2**64:
             same = f'"u{next(it for it in (16, 32, 64) if self.value < 2**it)}:{self.value}"'
+        if want == "a table":
+            same = f"{{id = {same or toml(self.value if isinstance(self.value, str) and is_publisher(self.value) else 'u8:5')}}}"
         return f"{self.written()} is {type_of(self.value)}, and `{self.key}` wants {want}", f"`{self.key} = {same or self.sample(self.key)}`"
 
     def there_5(self):
@@ -221,16 +235,22 @@ class Refused:
         return f"{self.written()} {why}", f'`name = "{free}"`'
 
     def there_8(self):
-        number = re.fullmatch(r"u(8|16|32|64):(\d+)", self.value)
+        number, typed = re.fullmatch(r"u(8|16|32|64):(\d+)", self.value), re.fullmatch(r"[uU](8|16|32|64):(.*)", self.value, re.DOTALL)
         if number:
             width = next((it for it in (8, 16, 32, 64) if int(number[2]) < 2**it), None)
             why = f"u{number[1]} ends at {2 ** int(number[1]) - 1}" if int(number[2]) >= 2 ** int(number[1]) else "a number has no leading zero"
             right = f'"u{max(width, int(number[1]))}:{int(number[2])}"' if width else '"u64:18446744073709551615"'
         elif self.value.startswith("text:"):
-            why, right = "a text has 1 to 64 bytes, each from `!` to `~`", '"text:a-1"'
+            why, right = "a text has 1 to 64 bytes, each from `!` to `~`", toml("text:" + (re.sub("[^!-~]", "-", self.value[5:])[:64] or "a-1"))
+        elif typed:
+            digits = re.sub(r"\D", "", typed[2]).lstrip("0") or "1"
+            small = self.value[0] == "u"
+            why = f"`{shown(typed[2])}` is no decimal number" if small else "a publisher begins with `u`, not `U`"
+            right = toml(f"u{typed[1]}:{digits if int(digits) < 2 ** int(typed[1]) else 1}")
         else:
-            number = self.value if re.fullmatch(r"[1-9]\d{0,3}", self.value) else "2234"
-            why, right = "a publisher begins with `u8:`, `u16:`, `u32:`, `u64:` or `text:`", f'"u16:{number}"'
+            number, is_text = re.fullmatch(r"0*(\d{1,4})", self.value), re.fullmatch("[!-~]{1,64}", self.value)
+            why = "a publisher begins with `u8:`, `u16:`, `u32:`, `u64:` or `text:`"
+            right = f'"u16:{number[1]}"' if number else toml(f"text:{self.value}") if is_text else '"u16:2234"'
         return f"{self.written()}: {why}", f"`{self.key} = {right}`"
 
     def there_9(self):
@@ -259,7 +279,7 @@ class Refused:
     def there_15(self):
         fields = self.it.get("field", [])
         words = sum(map(words_of, fields)) + ((len(fields) + 1) // 2 if self.it.get("quality") else 0)
-        return f"its fields take {words} words", "125 at most: fewer fields, or smaller caps"
+        return f"its fields take {words} words", f"{MOST_WORDS} at most: fewer fields, or smaller caps"
 
     def there_16(self):
         if self.key is None:

@@ -83,6 +83,6 @@ def one_of(word, words, what, form="`{}`"):
     return (form.format(near) + " is likely meant; " if near else "") + there
 
 
-def listed(words, last="and"):
-    words = [f"`{shown(it)}`" for it in words]
+def listed(words, last="and", form="`{}`"):
+    words = [form.format(shown(it)) for it in words]
     return words[0] if len(words) == 1 else ", ".join(words[:-1]) + f" {last} {words[-1]}" if words else "none"

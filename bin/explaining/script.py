@@ -1,6 +1,7 @@
 """What a refused line of a script has: what is wrong with it, and what would be right there."""
 from . import values
-from .rules import KINDS, one_of, shown
+from .config import MOST_WORDS, words_of
+from .rules import KINDS, MOST as MOST_TABLES, one_of, shown
 
 FORMS = {"write": "write THREAD DATASET F=V ..", "tick": "tick MS", "enable": "enable NAME", "disable": "disable NAME",
          "append": "append DATASET FIELD KIND, or with CAP behind it", "watch": "watch THREAD READER N",
@@ -8,6 +9,7 @@ FORMS = {"write": "write THREAD DATASET F=V ..", "tick": "tick MS", "enable": "e
 # The numbers of each line: the word's place, its name, and its range.
 RANGES = {"write": [(1, "THREAD", 0, 7)], "tick": [(1, "MS", 1, 3600000)], "append": [(4, "CAP", 1, 256)], "watch": [(1, "THREAD", 0, 7), (3, "N", 1, 1000)]}
 FATES = {"drop": None, "repeat": ("N", 2, 8), "hold": ("J", 0, 1000000), "again": ("J", 0, 1000000)}
+MOST_FIELDS = MOST_TABLES["field"]
 MOST = {"tick": (4096, "ticks"), "write": (32768, "writes"), "fate": (256, "fates"), "watch": (64, "watches"), "append": (16, "appends")}
 
 
@@ -87,7 +89,9 @@ class Line:
         if self.verb == "fate":
             found.append((1, "K", 0, 1000000))
             if len(self.words) > 3 and FATES.get(self.words[2]):
-                found.append((3, *FATES[self.words[2]]))
+                name, low, high = FATES[self.words[2]]
+                number = self.words[1]
+                found.append((3, name, int(number) + 1 if name == "J" and values.is_decimal(number, 0, high - 1) else low, high))
         return [it for it in found if it[0] < len(self.words)]
 
     def there_5(self):
@@ -165,7 +169,18 @@ class Line:
         if (kind in ("String", "ByteString")) != (len(self.words) > 4):
             capped = kind in ("String", "ByteString")
             return f"`{kind}` {'needs a CAP' if capped else 'has no CAP'}", f"`append {name} {field} {kind}{' 16' if capped else ''}`"
-        return None, None
+        return self.no_room(name, [*self.fields(name).values(), (kind, int(self.words[4]) if len(self.words) > 4 else 0)])
+
+    def no_room(self, name, fields):
+        """Why no further field fits: of the data set with it, or of a datagram."""
+        it = self.set_named(name) or {}
+        words = sum(words_of({"kind": kind, "cap": cap}) for kind, cap in fields) + ((len(fields) + 1) // 2 if it.get("quality") else 0)
+        minor = it.get("minor", 0) + sum(words[0] == "append" and words[1:2] == [name] for words in self.before)
+        if len(fields) > MOST_FIELDS or words > MOST_WORDS:
+            return f"with it `{name}` has {len(fields)} fields of {words} words", f"at most {MOST_FIELDS} fields, and {MOST_WORDS} words"
+        if minor >= 2**32 - 1:
+            return f"`{name}` has the minor version {minor} at this line, the last", f"a smaller `minor` of `{name}`"
+        return f"with it the messages of `{name}` are too long for a group", "a greater `max_size` of the group, or fewer fields"
 
     def there_13(self):
         return f"`lanes` has no line `{shown(self.verb)}`", "`write`, `tick` or `fate`, or `play` in place of `lanes`"

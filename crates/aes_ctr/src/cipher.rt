@@ -73,9 +73,9 @@ pub fn encrypt_eight(keys: &[RoundKey], blocks: Planes) -> Planes
     requires keys { AreFull keys.now }
     requires lanes { AreLanes blocks }
     ensures lanes { AreLanes result }
-    ensures blocks { (ws : List (List ℕ)) → AreRoundKeys keys.now ws (length keys.now)
-        → (j : ℕ) → j < 8
-        → slice_index_or result j [] ≡ cipher (length keys.now - 2) ws (slice_index_or blocks j []) }
+    ensures blocks { (ws : List (List ℕ)) → AreRoundKeys keys.now ws (length keys.now) → (j : ℕ)
+        → j < 8 → slice_index_or result j [] ≡ cipher (length keys.now - 2) ws
+        (slice_index_or blocks j []) }
 {
     let last = keys.len() - 1;
     let mut s = add(to_planes(blocks), keys[0].planes());

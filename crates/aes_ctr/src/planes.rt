@@ -103,8 +103,10 @@ fn doubled(q: Planes) -> Planes
 fn swap(a: u8x16, b: u8x16, by: u8, mask: u8) -> (u8x16, u8x16)
     requires { by < 8 }
     ensures given { IsLanes a × IsLanes b }
-    ensures first { result.0 ≡ values (λ i. swapped by mask 0 (slice_index a i) (slice_index b i)) 0 16 }
-    ensures second { result.1 ≡ values (λ i. swapped by mask 1 (slice_index a i) (slice_index b i)) 0 16 }
+    ensures first { result.0
+        ≡ values (λ i. swapped by mask 0 (slice_index a i) (slice_index b i)) 0 16 }
+    ensures second { result.1
+        ≡ values (λ i. swapped by mask 1 (slice_index a i) (slice_index b i)) 0 16 }
 {
     let places = u8x16::splat(by);
     let t = ((a >> places) ^ b) & u8x16::splat(mask);

@@ -63,7 +63,8 @@ fn add_pad(pad: u8x16, start: usize, bytes: &mut [u8])
     requires lanes { IsLanes pad }
     requires order { start ≤ length bytes.old }
     ensures inside { (k : ℕ) → start ≤ k → k < start + 16 → k < length bytes.old
-        → slice_index bytes.new k ≡ bit_xor (slice_index bytes.old k) (slice_index pad (k - start)) }
+        → slice_index bytes.new k ≡ bit_xor (slice_index bytes.old k)
+        (slice_index pad (k - start)) }
     ensures below { (k : ℕ) → k < start → slice_index bytes.new k ≡ slice_index bytes.old k }
     ensures above { (k : ℕ) → start + 16 ≤ k → slice_index bytes.new k ≡ slice_index bytes.old k }
 {

@@ -54,7 +54,7 @@ pub fn closed_histories_are_legal()
         history_of cell.meta.fields p.seen
         ≡ legal_history cell.meta.fields patches (threads_of p.seen) }
 {
-    let _ = Row::opening();
+    let _zeros = Row::opening();
     patched_words_belong();
 }
 

@@ -96,7 +96,7 @@ fn settings() -> WriterSettings
 fn writer(alloc: Global, meta: &Meta, turns: u32) -> Result<Writer, Unmeasured>
     ensures { IfOk result (HoldsRowOf meta.now) }
 {
-    let _ = meta.fields();
+    let _fields = meta.fields();
     match Writer::new(alloc, settings(), u64::from(turns), turns) {
         Ok(writer) => Ok(writer),
         Err(_) => Err(Unmeasured),

@@ -52,7 +52,7 @@ pub fn meta_of(alloc: Global, count: u8, quality: bool) -> Result<Meta, Unmeasur
 fn opening(meta: &Meta) -> Row
     ensures { Belongs meta.now result.words }
 {
-    let _ = meta.fields();
+    let _fields = meta.fields();
     Row::opening()
 }
 

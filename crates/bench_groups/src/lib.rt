@@ -5,7 +5,6 @@
 mod reading;
 mod rows;
 mod senders;
-mod unmeasured;
 mod writing;
 
 pub use reading::bench_datagrams;

@@ -2,13 +2,10 @@
 ghost use Rattle.std.specs.Prelude.{◌<◌, length};
 ghost use Rattle.bench_groups.specs.Taking.{MayTake};
 
-use crate::unmeasured::Unmeasured;
-use ps_config::{Config, read_config};
+use bench_base::Unmeasured;
+use ps_config::{Config, MOST_READERS, read_config};
 use reader_group::{ReaderGroup, Refusal, Taken};
 use std::alloc::Global;
-
-/// How many readers there may be in all.
-const MOST_READERS: usize = 16;
 
 /// What became of the datagrams of one run.
 #[derive(Clone, Copy)]

@@ -3,7 +3,7 @@ ghost use Rattle.std.specs.Prelude.{IfOk};
 ghost use Rattle.row_words.specs.Belonging.{Belongs};
 ghost use Rattle.bench_groups.specs.Running.{AreRows};
 
-use crate::unmeasured::Unmeasured;
+use bench_base::Unmeasured;
 use dataset_meta::Meta;
 use row_words::Row;
 use std::alloc::Global;
@@ -38,7 +38,7 @@ fn row_of(meta: &Meta, middle: u32) -> Row
 fn opening(meta: &Meta) -> Row
     ensures { Belongs meta.now result.words }
 {
-    let _ = meta.fields();
+    let _fields = meta.fields();
     Row::opening()
 }
 

@@ -4,7 +4,7 @@ ghost use Rattle.message_guard.specs.Senders.{IsSender};
 ghost use Rattle.ps_config.specs.Sound.{IsSound, IsKeyGroup};
 ghost use Rattle.bench_groups.specs.Running.{FitsSender};
 
-use crate::unmeasured::Unmeasured;
+use bench_base::Unmeasured;
 use message_guard::Sender;
 use ps_config::{Config, KeyGroupPart, Security, ring_of};
 

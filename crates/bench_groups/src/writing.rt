@@ -6,7 +6,7 @@ ghost use Rattle.bench_groups.specs.Running.{AreRows, IsOnFor, MayTurn};
 
 use crate::rows::rows_of;
 use crate::senders::sender_of;
-use crate::unmeasured::Unmeasured;
+use bench_base::Unmeasured;
 use message_guard::Sender;
 use ps_config::{Config, read_config};
 use std::alloc::Global;

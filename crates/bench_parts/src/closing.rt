@@ -3,8 +3,8 @@ ghost use Rattle.std.specs.Prelude.{◌≡◌, ◌<◌, IfOk, length, All};
 ghost use Rattle.row_words.specs.Belonging.{Belongs};
 ghost use Rattle.ps_report.specs.Conditions.{IsClosedOf, HoldsRow, HoldRows};
 
-use crate::unmeasured::Unmeasured;
 use arrayvec::ArrayVec;
+use bench_base::Unmeasured;
 use dataset_meta::Meta;
 use ps_config::{Config, ReaderPart, WriterPart};
 use ps_report::{
@@ -153,7 +153,7 @@ fn reader(sets: &[Meta], part: &ReaderPart) -> Result<ReaderEnd, Unmeasured>
 fn opening(meta: &Meta) -> Row
     ensures { Belongs meta.now result.words }
 {
-    let _ = meta.fields();
+    let _fields = meta.fields();
     Row::opening()
 }
 

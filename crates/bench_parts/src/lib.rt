@@ -11,7 +11,6 @@ mod messages;
 mod parts;
 mod report;
 mod script;
-mod unmeasured;
 
 pub use config::bench_config;
 pub use crypto::{

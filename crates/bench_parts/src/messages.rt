@@ -3,7 +3,7 @@ ghost use Rattle.std.specs.Prelude.{◌≡◌, ◌<◌, length, IfOk, All, IsSom
 ghost use Rattle.frame_codec.specs.Words.{IsFrameOf};
 ghost use Rattle.json_frames.specs.Parts.{IsPartOf, meta_at};
 
-use crate::unmeasured::Unmeasured;
+use bench_base::Unmeasured;
 use dataset_meta::Meta;
 use frame_codec::{Frame, FrameKind};
 use json_frames::{JsonMessage, JsonPart, JsonParts, read_json, write_json};
@@ -100,7 +100,7 @@ fn frame_of(meta: &Meta) -> Frame
     ensures bare_major { result.major ≡ None }
     ensures bare_minor { result.minor ≡ None }
 {
-    let _ = meta.fields();
+    let _fields = meta.fields();
     Frame {
         number: Some(65535),
         kind: FrameKind::Whole(Row::opening()),

@@ -1,6 +1,6 @@
 //! Reports.
 use crate::closing::{Sizes, closed_of};
-use crate::unmeasured::Unmeasured;
+use bench_base::Unmeasured;
 use ps_config::read_config;
 use ps_report::report;
 use std::alloc::Global;

@@ -1,7 +1,7 @@
 //! Scripts.
 ghost use Rattle.ps_config.specs.Sound.{IsSound};
 
-use crate::unmeasured::Unmeasured;
+use bench_base::Unmeasured;
 use ps_config::{Config, read_config};
 use ps_script::{Act, Script, ScriptEnd, read_script};
 use std::alloc::Global;

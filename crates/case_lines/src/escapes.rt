@@ -8,7 +8,8 @@ use std::alloc::{AllocError, Global};
 /// The bytes of a text in which `\n`, `\r`, `\t` and `\\` are those characters, `\x{HH..}` bytes, and `\*N(T)` the text T,
 /// N times, in which `/` is a line feed; none where it has another escape. A text without a backslash is itself.
 pub fn unescaped(alloc: Global, text: &str) -> Result<Option<Vec<u8>>, AllocError>
-    ensures { ¬ Contains text.now 92 → IfOk result (λ told. IfSome told (λ bytes. bytes.items ≡ text.now)) }
+    ensures { ¬ Contains text.now 92
+        → IfOk result (λ told. IfSome told (λ bytes. bytes.items ≡ text.now)) }
 {
     let mut bytes = Vec::new(alloc);
     let Some((plain, rest)) = text.split_once('\\') else {

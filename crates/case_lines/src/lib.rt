@@ -1,6 +1,6 @@
 //! Lines of cases for the programs that run them: the words of a line and its answer, bytes, kinds, values and texts of several
-//! lines as words, both ways, many cases in one line, and what lines tell of sessions: their configuration, the values of fields,
-//! and why a reader waits.
+//! lines as words, both ways, many cases in one line, what lines tell of sessions: their configuration, the values of fields,
+//! and why a reader waits; and what all runners do with lines.
 #![tactic(auto)]
 
 mod answered;
@@ -11,6 +11,7 @@ mod field;
 mod line;
 mod numbers;
 mod parsed;
+mod runner;
 mod shown;
 mod tally;
 mod why;
@@ -23,6 +24,7 @@ pub use field::set_field;
 pub use line::{Line, bytes_of};
 pub use numbers::Numbers;
 pub use parsed::{kind_of, number, parted, string_of, value_in, value_of};
+pub use runner::{Answers, answer_lines};
 pub use shown::{Digits, Hex, Shown};
 pub use tally::Tally;
 pub use why::why_of;

@@ -10,7 +10,8 @@ ghost use Rattle.chunker.specs.Cover.{has_offset, is_between};
 pub(crate) fn mark(words: &mut [u64; 64], first: usize, end: usize)
     requires some { first < end }
     requires within { end ≤ 4096 }
-    ensures { (x : ℕ) → has_offset words.new x ≡ (is_between first end x || has_offset words.old x) }
+    ensures { (x : ℕ)
+        → has_offset words.new x ≡ (is_between first end x || has_offset words.old x) }
 {
     let start = first / 64;
     let last = (end - 1) / 64;

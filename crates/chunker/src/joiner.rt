@@ -102,7 +102,8 @@ impl Joiner {
         requires within { offset + length part.now ≤ total }
         requires short { total ≤ MESSAGE_BYTES }
         ensures case { (kept : Joining) → IsJoinerOf kept self.old
-            → Meets (current_case kept (chunk_of now.number offset total part.now) kept.current) self.new result }
+            → Meets (current_case kept (chunk_of now.number offset total part.now) kept.current)
+            self.new result }
         ensures stays { is_laid result ≡ false → self.new ≡ self.old }
     {
         if now.is_whole {
@@ -134,7 +135,8 @@ impl Joiner {
         requires some { 1 ≤ length part.now }
         requires within { offset + length part.now ≤ total }
         requires short { total ≤ MESSAGE_BYTES }
-        ensures case { (kept : Joining) → HasLaid number total kept.chunks self.old.cover self.old.bytes
+        ensures case { (kept : Joining)
+            → HasLaid number total kept.chunks self.old.cover self.old.bytes
             → Meets (laid kept (chunk_of number offset total part.now)) self.new result }
         ensures is_laid { is_laid result ≡ true }
     {

@@ -11,7 +11,8 @@ ghost use Rattle.chunker.specs.declared.payload.TheConstants.{CHUNK_FRONT_BYTES}
 /// After chunks of near places, one more that is near makes its message whole exactly where they cover it then and didn't
 /// before, and the message's bytes are those of the last chunk that has each. Chunks of an older place change nothing.
 pub fn each_near_chunk_joins()
-    ensures { (chunks : List Chunk) (chunk : Chunk) (kept : Joining) → NearChunkJoins chunks chunk kept }
+    ensures { (chunks : List Chunk) (chunk : Chunk) (kept : Joining)
+        → NearChunkJoins chunks chunk kept }
 {}
 
 /// So it is over every list of chunks that came since the joiner was cleared, where the places of those that count are near.
@@ -51,7 +52,8 @@ pub fn each_chunk_of_a_cut_has_room_for_its_bytes()
 
 /// Chunks of one message that cover it give it back.
 pub fn chunks_that_cover_a_message_give_it_back()
-    ensures { (message : List ℕ) (place : ℕ) (chunks : List Chunk) → CoverGivesBack message place chunks }
+    ensures { (message : List ℕ) (place : ℕ) (chunks : List Chunk)
+        → CoverGivesBack message place chunks }
 {}
 
 /// A chunk that was written is read as itself, whatever bytes follow it. One with its place's number is read with that number.
@@ -64,10 +66,12 @@ pub fn a_written_chunk_is_read_whatever_follows()
 
 /// A written chunk has `CHUNK_FRONT_BYTES` bytes before its data.
 pub fn a_written_chunk_is_its_front_and_its_data()
-    ensures { (chunk : Chunk) → length (chunk_bytes chunk) ≡ CHUNK_FRONT_BYTES + length chunk.bytes }
+    ensures { (chunk : Chunk)
+        → length (chunk_bytes chunk) ≡ CHUNK_FRONT_BYTES + length chunk.bytes }
 {}
 
 /// Each chunk of a cut can be written, with its place's number.
 pub fn each_chunk_of_a_cut_can_be_written()
-    ensures { (room place : ℕ) (message : List ℕ) (chunk : Chunk) → CutCanBeWritten room place message chunk }
+    ensures { (room place : ℕ) (message : List ℕ) (chunk : Chunk)
+        → CutCanBeWritten room place message chunk }
 {}

@@ -6,8 +6,9 @@ use Rattle.std.proofs.lemmas.Bool.{eq-eqb, eqb-true, false≢true}
 use Rattle.std.proofs.lemmas.List.{get_or_default}
 use Rattle.std.proofs.lemmas.List.Folds.{Any-from_list_any, list_any_at}
 use Rattle.std.proofs.lemmas.Slice.Eq.{bytes_eq-Decides}
+use Rattle.config_tables.specs.Texts.{is_same_publisher}
 use Rattle.config_tables.specs.declared.publisher.Publisher.{Publisher}
-use Rattle.config_tables.specs.declared.publisher.Publisher.TheVariants as ids
+use Rattle.config_tables.proofs.Publishers.{same-publisher, self-publisher}
 use Rattle.config_tables.specs.declared.words.Layout.{Layout}
 use Rattle.config_tables.specs.declared.words.Layout.TheVariants as layouts
 use Rattle.config_tables.specs.declared.words.Security.{Security}
@@ -16,10 +17,11 @@ use Rattle.ps_config.specs.declared.parts.Config.{Config}
 use Rattle.ps_config.specs.declared.parts.GroupPart.{GroupPart}
 use Rattle.ps_config.specs.declared.parts.ReadGroupPart.{ReadGroupPart}
 use Rattle.ps_config.specs.declared.parts.ReaderPart.{ReaderPart}
-use Rattle.ps_config.specs.Headers.{is_secured, publisher_value}
+use Rattle.ps_config.specs.Headers.{is_secured}
 use Rattle.ps_config.specs.Rooms.{is_fixed}
 use Rattle.ps_config.specs.Sound.{IsGroup, IsReadGroup, IsSound}
-use Rattle.reader_group.specs.Filter.{is_same_publisher, is_any_or, has_class}
+use Rattle.reader_group.specs.Filter.{is_any_or, has_class}
+use Rattle.reader_group.proofs.Asked.{class-same}
 use Rattle.reader_group.specs.Settings.{group_at as read_group_at}
 use Rattle.writer_group.specs.Parts.{group_at, no_group}
 use Rattle.writer_group.specs.Payloads.{writer_at, no_writer}
@@ -46,21 +48,6 @@ second-holds false b is = is
 
 -- ---- what a read group asks for
 
-same-publisher : (one other : Publisher) → is_same_publisher one (publisher_value other) ≡ true → one ≡ other
-same-publisher (ids.U8 m) (ids.U8 n) e = ap ids.U8 (eqb-true m n e)
-same-publisher (ids.U16 m) (ids.U16 n) e = ap ids.U16 (eqb-true m n e)
-same-publisher (ids.U32 m) (ids.U32 n) e = ap ids.U32 (eqb-true m n e)
-same-publisher (ids.U64 m) (ids.U64 n) e = ap ids.U64 (eqb-true m n e)
-same-publisher (ids.Text m) (ids.Text n) e = ap ids.Text ((bytes_eq-Decides m n).0 e)
-same-publisher one other e = absurd (false≢true e)
-
-pub own-publisher : (one : Publisher) → is_same_publisher one (publisher_value one) ≡ true
-own-publisher (ids.U8 m) = eq-eqb m m refl
-own-publisher (ids.U16 m) = eq-eqb m m refl
-own-publisher (ids.U32 m) = eq-eqb m m refl
-own-publisher (ids.U64 m) = eq-eqb m m refl
-own-publisher (ids.Text m) = (bytes_eq-Decides m m).1 refl
-
 any-or : (asked number : ℕ) → is_any_or asked (Some number) ≡ true → (asked ≡ 0) ⊎ (asked ≡ number)
 any-or asked number is =
     elim (either (asked == 0) (number == asked) is) [
@@ -79,13 +66,9 @@ class-or None carried is = inl refl
 class-or (Some id) None is = absurd (false≢true is)
 class-or (Some id) (Some other) is = inr (ap (λ (t : List ℕ). Some t) ((bytes_eq-Decides id other).0 is))
 
-own-class : (class_id : Option (List ℕ)) → has_class class_id class_id ≡ true
-own-class None = refl
-own-class (Some id) = (bytes_eq-Decides id id).1 refl
-
 has-class : (asked carried : Option (List ℕ)) → (asked ≡ None) ⊎ (asked ≡ carried) → has_class asked carried ≡ true
 has-class asked carried (inl any) = ap (λ (o : Option (List ℕ)). has_class o carried) any
-has-class asked carried (inr same) = ap (λ (o : Option (List ℕ)). has_class o carried) same ∙ own-class carried
+has-class asked carried (inr same) = ap (λ (o : Option (List ℕ)). has_class o carried) same ∙ class-same carried
 
 plain-layout : (layout : Layout) (security : Security) → is_plain layout security ≡ true → layout ≡ layouts.Dynamic
 plain-layout layouts.Dynamic security is = refl
@@ -109,7 +92,7 @@ asks-matched config readers group of_readers of_group plain is =
     let one = both _ (has_class readers.class_id group.class_id) is in
     let two = both _ (is_any_or readers.version (Some group.version)) one.0 in
     let three = both _ (is_any_or readers.group (Some group.id)) two.0 in
-    let four = both (is_plain group.layout group.security) (is_same_publisher readers.publisher (publisher_value config.publisher.id)) three.0 in
+    let four = both (is_plain group.layout group.security) (is_same_publisher readers.publisher config.publisher.id) three.0 in
     let secured = plain-security readers.layout readers.security plain in
     let its = plain-security group.layout group.security four.0 in
     record {
@@ -132,9 +115,9 @@ matched-asks config readers group plain matched =
     together _ (has_class readers.class_id group.class_id)
     (together _ (is_any_or readers.version (Some group.version))
     (together _ (is_any_or readers.group (Some group.id))
-    (together (is_plain group.layout group.security) (is_same_publisher readers.publisher (publisher_value config.publisher.id))
+    (together (is_plain group.layout group.security) (is_same_publisher readers.publisher config.publisher.id)
     (sym (ap (λ (l : Layout). is_plain l readers.security) matched.layout ∙ ap (λ (s : Security). is_plain group.layout s) matched.security) ∙ plain)
-    (ap (λ (p : Publisher). is_same_publisher p (publisher_value config.publisher.id)) matched.publisher ∙ own-publisher config.publisher.id))
+    (ap (λ (p : Publisher). is_same_publisher p config.publisher.id) matched.publisher ∙ self-publisher config.publisher.id))
     (of_group matched.group_id))
     (of_version matched.version))
     (has-class readers.class_id group.class_id matched.class_id)

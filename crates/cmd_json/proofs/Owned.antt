@@ -69,7 +69,7 @@ use Rattle.json_tap.specs.Transcoding.{Message, all_of, are_past, frame_if, is_s
 use Rattle.json_text.specs.Matching.{is_plain}
 use Rattle.json_text.specs.Reading.{parts_of}
 use Rattle.cmd_json.specs.Owned.{HasOwnFrames, HaveOwnFrames, IsAnsweredFrame, IsOfWriter, IsPlainWriter}
-use Rattle.cmd_json.proofs.Matching.{own-publisher}
+use Rattle.reader_group.proofs.Asked.{publisher-same}
 
 none-some : {X Y : Type 0} (x : X) → Path (Option X) None (Some x) → Y
 none-some x e = absurd cc
@@ -240,7 +240,7 @@ is-opened config group w datagram message named listed =
     let front = header_bytes named.header in
     let ours : is_ours readers named.header ≡ true =
     ap (λ (o : Option PublisherValue). is_publisher config.publisher.id o && true && true && true) named.publisher
-    ∙ ap (λ (b : Bool). b && true && true && true) (own-publisher config.publisher.id) in
+    ∙ ap (λ (b : Bool). b && true && true && true) (publisher-same config.publisher.id) in
     let judged_so = taken-open readers setup [] named.header named.rest refl listed.unsecured named.written ours (good-list named.header listed.ids named.rest named.written listed.has listed.fits) in
     record {
       opened = record { pass = open_pass (front ++ named.rest); payload = payload_of layouts.Dynamic named.header.ids (length front) (front ++ named.rest) };

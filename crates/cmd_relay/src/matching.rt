@@ -8,7 +8,6 @@ ghost use Rattle.cmd_relay.specs.Sources.{AsksFor, IsRead};
 
 use config_tables::Layout;
 use ps_config::{Config, GroupPart, ReadGroupPart, ReaderPart, WriterPart};
-use pubsub_engine::is_same_publisher;
 
 /// The group and the index in it of the writer that the reader with this index in the read group is matched to.
 pub fn matched_writer(config: &Config, readers: &ReadGroupPart, index: usize) -> Option<(u8, u8)>
@@ -52,7 +51,7 @@ fn is_matched(config: &Config, group: &GroupPart, readers: &ReadGroupPart) -> bo
     ensures yes { result ≡ true → IsMatched config.now group.now readers.now }
     ensures no { IsMatched config.now group.now readers.now → result ≡ true }
 {
-    is_same_publisher(&readers.publisher, &config.publisher.id)
+    readers.publisher.is_same(&config.publisher.id)
         && asks_for(group, readers)
         && readers.layout == group.layout
         && readers.security == group.security

@@ -1,5 +1,5 @@
 -- Publishers, class ids and hexadecimal digits, as they are spelled.
-use Rattle.std.specs.Prelude.{ℕ, ◌+◌, ◌==◌, Bool, ◌&&◌, not, nat_le, List, [], ◌∷◌, map, length, take, drop, slice_index, codes, replicate, Option, Some, None, option_map, option_and_then, Result, Ok, Err, if◌then◌else◌}
+use Rattle.std.specs.Prelude.{ℕ, ◌+◌, ◌==◌, Bool, false, ◌&&◌, not, nat_le, List, [], ◌∷◌, map, length, take, drop, slice_index, codes, replicate, Option, Some, None, option_map, option_and_then, Result, Ok, Err, if◌then◌else◌}
 use Rattle.std.specs.Char.{is_ascii_uppercase}
 use Rattle.std.specs.Fmt.{decimal}
 use Rattle.std.specs.List.{list_all}
@@ -47,6 +47,15 @@ publisher_named text =
     (option_or (option_map publisher.U32 (number_after (codes "u32:") 4294967295 text))
     (option_or (option_map publisher.U64 (number_after (codes "u64:") 18446744073709551615 text))
     (option_map publisher.Text (option_and_then id_spelled (after (codes "text:") text))))))
+
+-- both are one publisher: the same type of id, and the same id
+abbrev pub is_same_publisher : Publisher → Publisher → Bool
+is_same_publisher (publisher.U8 id) (publisher.U8 other) = id == other
+is_same_publisher (publisher.U16 id) (publisher.U16 other) = id == other
+is_same_publisher (publisher.U32 id) (publisher.U32 other) = id == other
+is_same_publisher (publisher.U64 id) (publisher.U64 other) = id == other
+is_same_publisher (publisher.Text text) (publisher.Text other) = bytes_eq text other
+is_same_publisher one other = false
 
 -- the bytes of a PublisherId
 abbrev pub width_of : Publisher → ℕ

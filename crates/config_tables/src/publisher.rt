@@ -1,7 +1,7 @@
 //! Publishers, as they are spelled.
 ghost use Rattle.std.specs.Prelude.{◌≡◌, ◌≤◌, option_map, option_and_then, IfSome};
 ghost use Rattle.std.specs.List.{list_all};
-ghost use Rattle.config_tables.specs.Texts.{after, number_after, is_printable, is_id, id_spelled, publisher_named, width_of};
+ghost use Rattle.config_tables.specs.Texts.{after, number_after, is_printable, is_id, id_spelled, publisher_named, width_of, is_same_publisher};
 
 use crate::number::number_spelled;
 use ua_values::Text;
@@ -53,6 +53,20 @@ impl Publisher {
             Publisher::U32(_) => 4,
             Publisher::U64(_) => 8,
             Publisher::Text(text) => 4 + text.as_bytes().len() as u64,
+        }
+    }
+
+    /// Whether both are one publisher.
+    pub fn is_same(&self, other: &Publisher) -> bool
+        ensures { result ≡ is_same_publisher self.now other.now }
+    {
+        match (self, other) {
+            (Publisher::U8(id), Publisher::U8(other)) => *id == *other,
+            (Publisher::U16(id), Publisher::U16(other)) => *id == *other,
+            (Publisher::U32(id), Publisher::U32(other)) => *id == *other,
+            (Publisher::U64(id), Publisher::U64(other)) => *id == *other,
+            (Publisher::Text(text), Publisher::Text(other)) => text.as_bytes() == other.as_bytes(),
+            _ => false,
         }
     }
 }

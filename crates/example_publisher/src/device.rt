@@ -118,7 +118,8 @@ fn turn_secured(
 ) -> u32
     requires good { IsGood config.now }
     requires index { index_of group.old < length config.now.group }
-    requires may { MayTickAt config.now config.now.dataset (sampled ∷ []) on.now (Some sender.old) group.old }
+    requires may { MayTickAt config.now config.now.dataset (sampled ∷ []) on.now
+        (Some sender.old) group.old }
     requires reserved { IsReserved out.old }
     ensures index { index_of group.new ≡ index_of group.old }
     ensures made { IsMadeAt config.now (index_of group.old) group.new }

@@ -13,15 +13,12 @@ use dataset_meta::Meta;
 use example_parts::Fault;
 use group_keys::Ring;
 use message_guard::OpenFault;
-use ps_config::{Config, ReadGroupPart, ReaderPart};
+use ps_config::{Config, MOST_READERS, ReadGroupPart, ReaderPart};
 use ps_report::{put_feed, put_named};
 use reader_group::{ReaderGroup, Refusal};
 use std::alloc::Global;
 use std::io;
 use udp_edge::write_whole;
-
-/// A configuration has at most so many readers.
-const MOST_READERS: usize = 16;
 
 /// The first read group of a configuration, what was told of its readers, and what became of datagrams. All readers are enabled.
 #[derive(Drop)]

@@ -575,7 +575,7 @@ fn clear_words(meta: &Meta, patch: &mut Patch)
     ensures none { patch.new.mask ≡ 0 }
 {
     prove!(meta.fields().len() <= 64);
-    let _ = Row::opening();
+    let _zeros = Row::opening();
     patch.row.words[..meta.words() as usize].fill(0);
     patch.mask = 0;
 }

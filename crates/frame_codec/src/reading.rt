@@ -60,7 +60,7 @@ fn opening(meta: &Meta) -> Frame
     ensures { IsFrameOf meta.now result }
 {
     prove!(meta.fields().len() <= 64);
-    let _ = Row::opening();
+    let _zeros = Row::opening();
     OPENING
 }
 

@@ -53,30 +53,36 @@ use version_cell::histories_are_the_models;
 /// within it reads by *Records*, and holds the row of the store that the log has at its number.
 pub fn a_gateway_publishes_what_is_stored()
     ensures session { (p : Plan) (second : Config) (sources : List Source) (relay : List RelayStep)
-        → IsRelay p second sources relay
-        → AreSteps (plan_again second) (seconds relay) × SamplesRise (plan_again second) (seconds relay)
-        × AreVersions (plan_again second) (seconds relay) (stored_rows p.config second sources (firsts relay)) }
-    ensures counts { (p : Plan) (second : Config) (sources : List Source) (relay : List RelayStep) (set : ℕ)
-        (now : MetaData) (sample : Sampled) → IsRelay p second sources relay → set < length second.dataset
-        → HasSample (plan_again second) (seconds relay) set now sample → WasCounted p.config sources relay set sample }
-    ensures publish { (p : Plan) (second : Config) (sources : List Source) (relay : List RelayStep) (g w : ℕ)
-        (later before : List WriterDeed) (turn : WriterTurn) → IsRelay p second sources relay
-        → w < length (group_at second g).writer
+        → IsRelay p second sources relay → AreSteps (plan_again second) (seconds relay)
+        × SamplesRise (plan_again second) (seconds relay)
+        × AreVersions (plan_again second) (seconds relay)
+        (stored_rows p.config second sources (firsts relay)) }
+    ensures counts { (p : Plan) (second : Config) (sources : List Source) (relay : List RelayStep)
+        (set : ℕ) (now : MetaData) (sample : Sampled) → IsRelay p second sources relay
+        → set < length second.dataset → HasSample (plan_again second) (seconds relay) set now sample
+        → WasCounted p.config sources relay set sample }
+    ensures publish { (p : Plan) (second : Config) (sources : List Source) (relay : List RelayStep)
+        (g w : ℕ) (later before : List WriterDeed) (turn : WriterTurn)
+        → IsRelay p second sources relay → w < length (group_at second g).writer
         → writer_deeds (plan_again second) g w (seconds relay) ≡ later ++ HadTurn turn ∷ before
         → let part = writer_at (group_at second g) w in let s = settings_at (group_at second g) w in
         is_data (answered_turn s before turn) ≡ true
         → PublishesVersion (plan_again second) (seconds relay) s part.dataset
         (stored_rows p.config second sources (firsts relay)) before turn }
-    ensures never_fall { (p : Plan) (second : Config) (sources : List Source) (relay : List RelayStep) (g w : ℕ)
-        → IsRelay p second sources relay → w < length (group_at second g).writer
+    ensures never_fall { (p : Plan) (second : Config) (sources : List Source)
+        (relay : List RelayStep) (g w : ℕ) → IsRelay p second sources relay
+        → w < length (group_at second g).writer
         → IsNonDecreasingBy (λ entry. entry.1) (log_at (plan_again second) g w (seconds relay)) }
-    ensures reads { (p : Plan) (second : Config) (sources : List Source) (relay : List RelayStep) (r i g w : ℕ)
-        → IsRelay p second sources relay → IsMatchedIn second r i g w → g < length second.group
-        → IsHonestAgain second r relay → ReadsByRecords second r i (first_number_of second g w) (seconds relay) }
-    ensures holds { (p : Plan) (second : Config) (sources : List Source) (relay : List RelayStep) (r i g w : ℕ)
-        (row : List DataValue) → IsRelay p second sources relay → IsMatchedIn second r i g w → g < length second.group
-        → IsHonestAgain second r relay → (reader_at second r i (seconds relay)).kept.row ≡ Some row
-        → IsPublished (plan_again second) r i g w (seconds relay) (stored_rows p.config second sources (firsts relay))
+    ensures reads { (p : Plan) (second : Config) (sources : List Source) (relay : List RelayStep)
+        (r i g w : ℕ) → IsRelay p second sources relay → IsMatchedIn second r i g w
+        → g < length second.group → IsHonestAgain second r relay
+        → ReadsByRecords second r i (first_number_of second g w) (seconds relay) }
+    ensures holds { (p : Plan) (second : Config) (sources : List Source) (relay : List RelayStep)
+        (r i g w : ℕ) (row : List DataValue) → IsRelay p second sources relay
+        → IsMatchedIn second r i g w → g < length second.group → IsHonestAgain second r relay
+        → (reader_at second r i (seconds relay)).kept.row ≡ Some row
+        → IsPublished (plan_again second) r i g w (seconds relay)
+        (stored_rows p.config second sources (firsts relay))
         (reader_at second r i (seconds relay)).kept.number row }
 {
     matched_readers_hold_published_versions();
@@ -86,19 +92,21 @@ pub fn a_gateway_publishes_what_is_stored()
 /// Each store of a source has a row that its reader held at the end of the pump that made it: that of the version that the first
 /// history's writer logged at the number of the message, which is what the store's origin tells, cut to the reader's fields.
 pub fn what_is_stored_was_published()
-    ensures { (p : Plan) (second : Config) (sources : List Source) (relay : List RelayStep) (set store : ℕ)
-        (rows : ℕ → ℕ → List DataValue) → IsRelay p second sources relay → set < length second.dataset
-        → IsHonestSource p (source_at sources set) (firsts relay) → AreVersions p (firsts relay) rows
+    ensures { (p : Plan) (second : Config) (sources : List Source) (relay : List RelayStep)
+        (set store : ℕ) (rows : ℕ → ℕ → List DataValue) → IsRelay p second sources relay
+        → set < length second.dataset → IsHonestSource p (source_at sources set) (firsts relay)
+        → AreVersions p (firsts relay) rows
         → store ≤ length (stores_of p.config sources set (firsts relay))
-        → IsOfHistory p (meta_in second.dataset set) (source_at sources set) (firsts relay) rows store
-        (stored_rows p.config second sources (firsts relay) set store) }
+        → IsOfHistory p (meta_in second.dataset set) (source_at sources set) (firsts relay) rows
+        store (stored_rows p.config second sources (firsts relay) set store) }
 {
     matched_readers_hold_published_versions();
 }
 
 /// A reader that isn't cut between two moments of a session doesn't hold an older version at the later one than at the earlier.
 pub fn an_uncut_reader_never_holds_an_older_version()
-    ensures { (p : Plan) (r i g w : ℕ) (later now : List Step) (one other : ℕ) → InSession p r i g w (later ++ now)
+    ensures { (p : Plan) (r i g w : ℕ) (later now : List Step) (one other : ℕ)
+        → InSession p r i g w (later ++ now)
         → (seat_at (setting_of p.config r).seats i).part.numbering ≡ Message
         → IsUncutBetween p r i g w now (later ++ now) → HoldsVersionAt p r i g w now one
         → HoldsVersionAt p r i g w (later ++ now) other → one ≤ other }
@@ -115,23 +123,26 @@ pub fn an_uncut_reader_never_holds_an_older_version()
 /// between them; nor does the version that the store came with, where the source isn't cut between the making of the two stores.
 /// So the version that is printed doesn't fall, where the source isn't cut after the making of the store that was held earlier.
 pub fn a_relayed_version_never_falls()
-    ensures stores { (p : Plan) (second : Config) (sources : List Source) (newer older : List RelayStep) (r i g w : ℕ)
-        (one other : ℕ) → IsRelay p second sources (newer ++ older) → IsMatchedIn second r i g w
+    ensures stores { (p : Plan) (second : Config) (sources : List Source)
+        (newer older : List RelayStep) (r i g w : ℕ) (one other : ℕ)
+        → IsRelay p second sources (newer ++ older) → IsMatchedIn second r i g w
         → g < length second.group → IsHonestAgain second r (newer ++ older)
         → (seat_at (setting_of second r).seats i).part.numbering ≡ Message
         → IsUncutBetween (plan_again second) r i g w (seconds older) (seconds (newer ++ older))
         → HoldsVersionAt (plan_again second) r i g w (seconds older) one
-        → HoldsVersionAt (plan_again second) r i g w (seconds (newer ++ older)) other → one ≤ other }
-    ensures versions { (p : Plan) (second : Config) (sources : List Source) (relay : List RelayStep) (set : ℕ)
-        (store later_store one other : ℕ) → IsRelay p second sources relay → set < length second.dataset
-        → let source = source_at sources set in IsHonestSource p source (firsts relay) → store ≤ later_store
+        → HoldsVersionAt (plan_again second) r i g w (seconds (newer ++ older)) other
+        → one ≤ other }
+    ensures versions { (p : Plan) (second : Config) (sources : List Source) (relay : List RelayStep)
+        (set : ℕ) (store later_store one other : ℕ) → IsRelay p second sources relay
+        → set < length second.dataset → let source = source_at sources set in
+        IsHonestSource p source (firsts relay) → store ≤ later_store
         → (old : CameWith p source (firsts relay) store one)
         → (new : CameWith p source (firsts relay) later_store other)
-        → IsUncutBetween p source.read_group source.reader source.group source.writer old.was.now new.was.now
-        → one ≤ other }
-    ensures printed { (p : Plan) (second : Config) (sources : List Source) (newer older : List RelayStep)
-        (r i g w : ℕ) → IsRelay p second sources (newer ++ older) → IsNumbered second r i g w
-        → IsHonestAgain second r (newer ++ older)
+        → IsUncutBetween p source.read_group source.reader source.group source.writer old.was.now
+        new.was.now → one ≤ other }
+    ensures printed { (p : Plan) (second : Config) (sources : List Source)
+        (newer older : List RelayStep) (r i g w : ℕ) → IsRelay p second sources (newer ++ older)
+        → IsNumbered second r i g w → IsHonestAgain second r (newer ++ older)
         → IsHonestSource p (source_of second sources g w) (firsts (newer ++ older))
         → IsNoOlder p second (source_of second sources g w) newer older r i g w }
 {
@@ -146,9 +157,10 @@ pub fn a_relayed_version_never_falls()
 /// A reader that is matched within the second configuration, and holds a row, holds the row of a store, which is the opening row or
 /// the row of a version of the first history.
 pub fn a_relayed_row_is_of_the_first_history()
-    ensures { (p : Plan) (second : Config) (sources : List Source) (relay : List RelayStep) (r i g w : ℕ)
-        (row : List DataValue) → IsRelay p second sources relay → IsMatchedIn second r i g w → g < length second.group
-        → IsHonestAgain second r relay → (seat_at (setting_of second r).seats i).part.numbering ≡ Message
+    ensures { (p : Plan) (second : Config) (sources : List Source) (relay : List RelayStep)
+        (r i g w : ℕ) (row : List DataValue) → IsRelay p second sources relay
+        → IsMatchedIn second r i g w → g < length second.group → IsHonestAgain second r relay
+        → (seat_at (setting_of second r).seats i).part.numbering ≡ Message
         → (reader_at second r i (seconds relay)).kept.row ≡ Some row
         → IsRelayed p second sources relay r i g w row }
 {
@@ -163,9 +175,10 @@ pub fn a_relayed_row_is_of_the_first_history()
 
 /// What a pass shows of a target is what is collected of its reader's stores, where the data set's fields are the reader's.
 pub fn passes_show_what_is_collected()
-    ensures { (cell : CellData) (meta : MetaData) (p : Known) (list : List Store) → IsCell cell → IsPassOf cell p
-        → SeesLawful p → cell.meta.fields ≡ meta.fields → cell.meta.quality ≡ meta.quality
-        → HasStored list cell.meta p → IsCollected meta list (sample_of p) }
+    ensures { (cell : CellData) (meta : MetaData) (p : Known) (list : List Store) → IsCell cell
+        → IsPassOf cell p → SeesLawful p → cell.meta.fields ≡ meta.fields
+        → cell.meta.quality ≡ meta.quality → HasStored list cell.meta p
+        → IsCollected meta list (sample_of p) }
 {
     histories_are_the_models();
 }
@@ -184,11 +197,11 @@ pub fn a_kept_version_is_of_its_store()
     ensures of_origin { (p : Plan) (source : Source) (relay : List RelayStep) (store version : ℕ)
         → version_in (versions_kept p source relay) store ≡ Some version
         → ((store ≡ 0) × (version ≡ 0)) ⊎ CameWith p source (firsts relay) store version }
-    ensures known { (p : Plan) (second : Config) (sources : List Source) (relay : List RelayStep) (set store : ℕ)
-        → IsRelay p second sources relay → set < length second.dataset
+    ensures known { (p : Plan) (second : Config) (sources : List Source) (relay : List RelayStep)
+        (set store : ℕ) → IsRelay p second sources relay → set < length second.dataset
         → IsHonestSource p (source_at sources set) (firsts relay)
-        → store ≤ length (stores_of p.config sources set (firsts relay))
-        → (version : ℕ) × (version_in (versions_kept p (source_at sources set) relay) store ≡ Some version) }
+        → store ≤ length (stores_of p.config sources set (firsts relay)) → (version : ℕ)
+        × (version_in (versions_kept p (source_at sources set) relay) store ≡ Some version) }
     ensures joined { (p : Plan) (second : Config) (sources : List Source) (relay : List RelayStep)
         (rows : ℕ → ℕ → List DataValue) (set store : ℕ) → IsRelay p second sources relay
         → AreVersions p (firsts relay) rows → set < length second.dataset
@@ -209,8 +222,8 @@ pub fn a_kept_version_is_of_its_store()
 /// moment to a later one neither store nor version falls, where nothing was cut.
 pub fn a_gateway_tells_the_first_history()
     ensures { (p : Plan) (second : Config) (sources : List Source) (relay : List RelayStep)
-        (rows : ℕ → ℕ → List DataValue) → IsRelay p second sources relay → AreVersions p (firsts relay) rows
-        → TellsGateway p second sources relay rows }
+        (rows : ℕ → ℕ → List DataValue) → IsRelay p second sources relay
+        → AreVersions p (firsts relay) rows → TellsGateway p second sources relay rows }
 {
     matched_readers_hold_published_versions();
     data_messages_stand_for_versions();
@@ -226,11 +239,13 @@ pub fn a_gateway_tells_the_first_history()
 /// and its read groups always are. So it needs no tree of states.
 pub fn a_gateway_has_all_enabled()
     ensures none { (relay : List RelayStep) → switches_in (seconds relay) ≡ [] }
-    ensures on { (config : Config) (steps : List Step) (component : Component) → switches_in steps ≡ []
-        → is_on config steps component ≡ true }
-    ensures groups { (config : Config) (steps : List Step) (deeds : List Deed) (g : ℕ) → switches_in steps ≡ []
+    ensures on { (config : Config) (steps : List Step) (component : Component)
+        → switches_in steps ≡ [] → is_on config steps component ≡ true }
+    ensures groups { (config : Config) (steps : List Step) (deeds : List Deed) (g : ℕ)
+        → switches_in steps ≡ []
         → works config steps deeds (Group g) ≡ not (is_spent config g deeds) }
-    ensures writers { (config : Config) (steps : List Step) (deeds : List Deed) (g w : ℕ) → switches_in steps ≡ []
+    ensures writers { (config : Config) (steps : List Step) (deeds : List Deed) (g w : ℕ)
+        → switches_in steps ≡ []
         → works config steps deeds (Writer g w) ≡ not (is_spent config g deeds) }
     ensures reads { (config : Config) (steps : List Step) (r : ℕ) → switches_in steps ≡ []
         → receives config steps r ≡ true }
@@ -243,8 +258,10 @@ pub fn a_gateway_lives_through_its_relay()
         (lived : List GatewayStep) → Lives p places sources relay lived
         → session_steps places lived ≡ seconds relay }
     ensures versions { (p : Plan) (places : List ℕ) (sources : List Source) (relay : List RelayStep)
-        (lived : List GatewayStep) (set : ℕ) → set < length places → Lives p places sources relay lived
-        → versions_by_index (slice_index_or places set 0) lived ≡ versions_kept p (source_at sources set) relay }
+        (lived : List GatewayStep) (set : ℕ) → set < length places
+        → Lives p places sources relay lived → versions_by_index (slice_index_or places set 0) lived
+        ≡ versions_kept p (source_at sources set) relay }
     ensures sources { (first second : Config) (places : List ℕ) → HaveIndexes first second places
-        → (sources : List Source) × HaveSources first second sources × ArePlaces first places sources }
+        → (sources : List Source) × HaveSources first second sources
+        × ArePlaces first places sources }
 {}

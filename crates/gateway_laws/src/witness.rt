@@ -31,11 +31,13 @@ pub fn a_small_relay_meets_the_premises()
     ensures honest_source { IsHonestSource small_plan first_source (firsts whole_relay) }
     ensures honest_again { IsHonestAgain again_config 0 whole_relay }
     ensures numbered { IsNumbered again_config 0 0 0 0 }
-    ensures logged { log_at (plan_again again_config) 0 0 (seconds whole_relay) ≡ (0, 1) ∷ (1, 2) ∷ [] }
+    ensures logged { log_at (plan_again again_config) 0 0 (seconds whole_relay)
+        ≡ (0, 1) ∷ (1, 2) ∷ [] }
     ensures held { (reader_at again_config 0 0 (seconds whole_relay)).kept.row ≡ Some small_row }
     ensures earlier { HoldsTold small_plan again_config first_source first_relay 0 0 0 0 1 1 }
     ensures later { HoldsTold small_plan again_config first_source whole_relay 0 0 0 0 2 1 }
-    ensures uncut { AreUncut small_plan again_config first_source (last_round ∷ []) first_relay 0 0 0 0 1 }
+    ensures uncut { AreUncut small_plan again_config first_source (last_round ∷ [])
+        first_relay 0 0 0 0 1 }
     ensures made { WasMade small_plan first_source whole_session 2 (held_store 1) }
     ensures came { (old : CameWith small_plan first_source whole_session 1 1)
         × (new : CameWith small_plan first_source whole_session 2 1)
@@ -43,8 +45,8 @@ pub fn a_small_relay_meets_the_premises()
     ensures indexes { HaveIndexes small_plan.config again_config (0 ∷ []) }
     ensures lives { Lives small_plan (0 ∷ []) its_sources whole_relay whole_life }
     ensures cell { IsCell its_cell }
-    ensures pass { let pass = pass_with (seven_entry ∷ seven_entry ∷ []) in IsPassOf its_cell pass × SeesLawful pass
-        × HasStored (held_store 1 ∷ held_store 0 ∷ []) its_cell.meta pass }
+    ensures pass { let pass = pass_with (seven_entry ∷ seven_entry ∷ []) in IsPassOf its_cell pass
+        × SeesLawful pass × HasStored (held_store 1 ∷ held_store 0 ∷ []) its_cell.meta pass }
 {
     the_built_in_configuration_is_sound();
     an_accepted_configuration_is_sound();

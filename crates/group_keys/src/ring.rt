@@ -119,7 +119,8 @@ impl Ring {
         ensures last { current (key_sets self.now) now ≡ Some result.now }
         ensures listed { IsAmong (key_sets self.now) result.now }
         ensures come { result.now.from ≤ now }
-        ensures latest { All (λ set. set.from ≤ now → set.from ≤ result.now.from) (key_sets self.now) }
+        ensures latest { All (λ set. set.from ≤ now → set.from ≤ result.now.from)
+            (key_sets self.now) }
         ensures fits { length result.now.encrypting.items ≡ encrypting_length (is_long self.now) }
     {
         match current(self.keys.as_slice(), now) {

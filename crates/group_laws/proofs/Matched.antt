@@ -1,13 +1,11 @@
 -- What is asked of a matched read group and of its reader, as the filter and the settings say it.
 use Rattle.std.proofs.Common.{◌≡◌, refl, sym, ap, ◌∙◌, subst, ℕ, ◌<◌, ◌⊎◌, inl, inr, Bool, true, false, ◌&&◌, ◌||◌, List, length, Option, Some, None}
-use Rattle.std.specs.Prelude.{◌==◌, bytes_eq, if◌then◌else◌}
+use Rattle.std.specs.Prelude.{◌==◌, if◌then◌else◌}
 use Rattle.std.proofs.lemmas.Bool.{eq-eqb}
 use Rattle.std.proofs.lemmas.List.{get_or-map}
-use Rattle.std.proofs.lemmas.Slice.Eq.{bytes_eq-Decides}
 use Rattle.dataset_meta.specs.Metas.{MetaData}
 use Rattle.uadp_header.specs.Headers.{IdsValue}
 use Rattle.config_tables.specs.declared.publisher.Publisher.{Publisher}
-use Rattle.config_tables.specs.declared.publisher.Publisher.TheVariants as publishers
 use Rattle.ps_config.specs.declared.parts.Config.{Config}
 use Rattle.ps_config.specs.declared.parts.GroupPart.{GroupPart}
 use Rattle.ps_config.specs.declared.parts.ReadGroupPart.{ReadGroupPart}
@@ -16,21 +14,12 @@ use Rattle.ps_config.specs.Rooms.{header_settings}
 use Rattle.writer_group.specs.Envelopes.{Numbering, numbered_header}
 use Rattle.writer_group.specs.Payloads.{meta_at}
 use Rattle.reader_group.specs.Filter.{has_class, is_any_or, is_carried, is_ours, is_publisher}
+use Rattle.reader_group.proofs.Asked.{class-same, publisher-same}
 use Rattle.reader_group.specs.Members.{Seat, no_seat, seat_at}
 use Rattle.reader_group.specs.Settings.{seat_in, setting_by}
 use Rattle.group_laws.specs.Matching.{IsMatched, IsMatchedTo, ReadsFrames, ReadsWriter, reader_at}
 
 -- ---- the filter asks for what each header of the group tells
-
-bytes-same : (bytes : List ℕ) → bytes_eq bytes bytes ≡ true
-bytes-same bytes = (bytes_eq-Decides bytes bytes).1 refl
-
-publisher-same : (publisher : Publisher) → is_publisher publisher (Some (publisher_value publisher)) ≡ true
-publisher-same (publishers.U8 id) = eq-eqb id id refl
-publisher-same (publishers.U16 id) = eq-eqb id id refl
-publisher-same (publishers.U32 id) = eq-eqb id id refl
-publisher-same (publishers.U64 id) = eq-eqb id id refl
-publisher-same (publishers.Text text) = bytes-same text
 
 any-asked : (carried : Option ℕ) → is_any_or 0 carried ≡ true
 any-asked carried = refl
@@ -48,10 +37,6 @@ version-asked version = on (version == 0)
     on : (b : Bool) → (b || is_carried version (if b then None else Some version)) ≡ true
     on true = refl
     on false = eq-eqb version version refl
-
-class-same : (class_id : Option (List ℕ)) → has_class class_id class_id ≡ true
-class-same None = refl
-class-same (Some id) = bytes-same id
 
 all-four : (a b c d : Bool) → a ≡ true → b ≡ true → c ≡ true → d ≡ true → (a && b && c && d) ≡ true
 all-four a b c d is_a is_b is_c is_d = rw (is_a, is_b, is_c, is_d) refl

@@ -1,6 +1,7 @@
 -- Which readers read the lines: those of an unsecured read group in a dynamic layout that are matched to a writer.
 use Rattle.std.specs.Prelude.{◌==◌, Bool, not, ◌&&◌, List, Some, flat_map, if◌then◌else◌, []}
 use Rattle.std.specs.List.{filter, list_any}
+use Rattle.config_tables.specs.Texts.{is_same_publisher}
 use Rattle.config_tables.specs.declared.words.Layout.{Layout}
 use Rattle.config_tables.specs.declared.words.Security.{Security}
 use Rattle.ps_config.specs.declared.parts.Config.{Config}
@@ -8,9 +9,9 @@ use Rattle.ps_config.specs.declared.parts.GroupPart.{GroupPart}
 use Rattle.ps_config.specs.declared.parts.ReadGroupPart.{ReadGroupPart}
 use Rattle.ps_config.specs.declared.parts.ReaderPart.{ReaderPart}
 use Rattle.ps_config.specs.declared.parts.WriterPart.{WriterPart}
-use Rattle.ps_config.specs.Headers.{is_secured, publisher_value}
+use Rattle.ps_config.specs.Headers.{is_secured}
 use Rattle.ps_config.specs.Rooms.{is_fixed}
-use Rattle.reader_group.specs.Filter.{is_same_publisher, is_any_or, has_class}
+use Rattle.reader_group.specs.Filter.{is_any_or, has_class}
 
 -- unsecured, in a dynamic layout
 abbrev pub is_plain : Layout → Security → Bool
@@ -20,7 +21,7 @@ is_plain layout security = not (is_fixed layout) && not (is_secured security)
 abbrev pub asks_for : Config → ReadGroupPart → GroupPart → Bool
 asks_for config readers group =
     is_plain group.layout group.security
-    && is_same_publisher readers.publisher (publisher_value config.publisher.id)
+    && is_same_publisher readers.publisher config.publisher.id
     && is_any_or readers.group (Some group.id) && is_any_or readers.version (Some group.version)
     && has_class readers.class_id group.class_id
 

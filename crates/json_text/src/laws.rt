@@ -15,8 +15,9 @@ use dataset_reader::{
 /// Lines of which each is read as the message that it was written of are read as the parts of these messages, in order, and as no
 /// others.
 pub fn lines_are_read_as_their_messages()
-    ensures { (config : Config) (messages : List Message) (parts : List Part) → AreReadAs config 0 messages
-        → ReadsLines config (lines_from config 0 messages) parts → parts ≡ parts_of messages }
+    ensures { (config : Config) (messages : List Message) (parts : List Part)
+        → AreReadAs config 0 messages → ReadsLines config (lines_from config 0 messages) parts
+        → parts ≡ parts_of messages }
 {}
 
 /// The frames that are read of lines for a reader can be arrivals with near places, and what it keeps of them is what *Records* says

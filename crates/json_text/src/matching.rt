@@ -1,12 +1,12 @@
 //! Which readers read the lines.
 ghost use Rattle.std.specs.Prelude.{◌≡◌, Some};
 ghost use Rattle.std.specs.List.{list_any};
-ghost use Rattle.ps_config.specs.Headers.{publisher_value};
-ghost use Rattle.reader_group.specs.Filter.{is_same_publisher, is_any_or, has_class};
+ghost use Rattle.reader_group.specs.Filter.{is_any_or};
 ghost use Rattle.json_text.specs.Matching.{is_plain, asks_for, reads_writer, reads_group, is_matched};
 
-use config_tables::{Layout, Publisher, Security};
+use config_tables::{Layout, Security};
 use ps_config::{Config, GroupPart, ReadGroupPart, ReaderPart, WriterPart};
+use reader_group::has_class;
 
 /// Unsecured, in a dynamic layout.
 pub(crate) fn is_plain(layout: Layout, security: Security) -> bool
@@ -45,39 +45,16 @@ fn asks_for(config: &Config, readers: &ReadGroupPart, group: &GroupPart) -> bool
     ensures { result ≡ asks_for config.now readers.now group.now }
 {
     is_plain(group.layout, group.security)
-        && is_same_publisher(&readers.publisher, &config.publisher.id)
+        && readers.publisher.is_same(&config.publisher.id)
         && is_any_or(u32::from(readers.group), u32::from(group.id))
         && is_any_or(readers.version, group.version)
         && has_class(&readers.class_id, &group.class_id)
-}
-
-fn is_same_publisher(asked: &Publisher, own: &Publisher) -> bool
-    ensures { result ≡ is_same_publisher asked.now (publisher_value own.now) }
-{
-    match (asked, own) {
-        (Publisher::U8(id), Publisher::U8(other)) => *id == *other,
-        (Publisher::U16(id), Publisher::U16(other)) => *id == *other,
-        (Publisher::U32(id), Publisher::U32(other)) => *id == *other,
-        (Publisher::U64(id), Publisher::U64(other)) => *id == *other,
-        (Publisher::Text(text), Publisher::Text(other)) => text.as_bytes() == other.as_bytes(),
-        _ => false,
-    }
 }
 
 fn is_any_or(asked: u32, number: u32) -> bool
     ensures { result ≡ is_any_or asked (Some number) }
 {
     asked == 0 || number == asked
-}
-
-fn has_class(asked: &Option<[u8; 16]>, carried: &Option<[u8; 16]>) -> bool
-    ensures { result ≡ has_class asked.now carried.now }
-{
-    match (asked, carried) {
-        (None, _) => true,
-        (Some(id), Some(other)) => *id == *other,
-        (Some(_), None) => false,
-    }
 }
 
 fn reads_any(reader: &ReaderPart, writers: &[WriterPart]) -> bool

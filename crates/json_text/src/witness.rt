@@ -18,7 +18,8 @@ pub fn a_small_message_meets_the_premises()
     ensures line { lines_from built_in_config 0 (small_message ∷ []) ≡ small_line ∷ [] }
     ensures read_as { AreReadAs built_in_config 0 (small_message ∷ []) }
     ensures read { ReadsLines built_in_config (small_line ∷ []) (parts_of (small_message ∷ [])) }
-    ensures kept { (kept_for built_in_config (parts_of (small_message ∷ [])) built_in_reader).row ≡ Some small_row }
+    ensures kept { (kept_for built_in_config (parts_of (small_message ∷ [])) built_in_reader).row
+        ≡ Some small_row }
 {
     the_built_in_configuration_is_sound();
     what_is_written_is_read();

@@ -8,7 +8,7 @@ ghost use Rattle.row_words.specs.Patches.{IsPatchOf, patch_in, patched_words};
 ghost use Rattle.key_delta.specs.Changes.{changes_upto};
 
 use crate::copying::used_words;
-use crate::passing::{passed, same_front};
+use crate::passing::{are_apart, passed};
 use dataset_meta::Meta;
 use row_words::{Patch, Row, is_scalar};
 
@@ -86,7 +86,7 @@ pub fn is_changed(meta: &Meta, old: &Row, new: &Row) -> bool
     ensures same { result ≡ false → old.now.words ≡ new.now.words }
 {
     let count = used_words(meta) as usize;
-    same_front(&old.words[..count], &new.words[..count]) < count
+    are_apart(&old.words[..count], &new.words[..count])
 }
 
 #[inline(always)]

@@ -89,5 +89,5 @@ fn zeros_are_a_row()
     ensures row { (fields : List Field) (words : List ℕ) → IsMeta fields
         → words ≡ replicate 125 0 → row_in fields words ≡ opening_row fields }
 {
-    let _ = Row::opening();
+    let _zeros = Row::opening();
 }

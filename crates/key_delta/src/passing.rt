@@ -1,11 +1,40 @@
 //! Fields that don't differ, passed by words.
-ghost use Rattle.std.specs.Prelude.{◌≡◌, ◌≢◌, ◌<◌, ◌≤◌, ◌+◌, true, length, take};
+ghost use Rattle.std.specs.Prelude.{◌≡◌, ◌≢◌, ◌<◌, ◌≤◌, ◌+◌, true, false, length, take};
 ghost use Rattle.dataset_meta.specs.Metas.{start_of};
 ghost use Rattle.row_words.specs.Belonging.{Belongs, row_in};
 ghost use Rattle.key_delta.specs.Changes.{changes_upto, HaveSameValues, HaveSameStatuses};
 
 use dataset_meta::Meta;
 use row_words::Row;
+
+/// Whether any two words differ. Eight are compared at a time, as far as they go.
+#[inline(always)]
+pub(crate) fn are_apart(one: &[u64], other: &[u64]) -> bool
+    requires { length one.now ≡ length other.now }
+    ensures apart { result ≡ true → one.now ≢ other.now }
+    ensures same { result ≡ false → one.now ≡ other.now }
+{
+    let mut at = 0;
+    while one.len() - at >= 8 {
+        if !are_eight_same(one, other, at) {
+            return true;
+        }
+        at += 8;
+    }
+    are_apart_from(one, other, at)
+}
+
+/// The same of words of which those in front of this index are the same.
+#[inline(always)]
+fn are_apart_from(one: &[u64], other: &[u64], from: usize) -> bool
+    requires long { length one.now ≡ length other.now }
+    requires from { from ≤ length one.now }
+    requires same { take from one.now ≡ take from other.now }
+    ensures apart { result ≡ true → one.now ≢ other.now }
+    ensures same { result ≡ false → one.now ≡ other.now }
+{
+    same_behind(one, other, from) < one.len()
+}
 
 /// A field before which, from this one on, none differs. It is sought by words; the field itself may be the same.
 #[inline(always)]
@@ -31,6 +60,7 @@ pub(crate) fn passed(meta: &Meta, old: &Row, new: &Row, from: usize) -> usize
 }
 
 /// A field before which, from this one on, no value differs.
+#[inline(always)]
 fn values_passed(meta: &Meta, old: &Row, new: &Row, from: usize) -> usize
     requires old { Belongs meta.now old.now.words }
     requires new { Belongs meta.now new.now.words }
@@ -115,13 +145,25 @@ fn last_before(meta: &Meta, from: usize, word: usize) -> usize
 
 /// How many of the first words are the same. Four are compared at a time.
 #[inline(always)]
-pub(crate) fn same_front(one: &[u64], other: &[u64]) -> usize
+fn same_front(one: &[u64], other: &[u64]) -> usize
     requires { length one.now ≡ length other.now }
+    ensures within { result ≤ length one.now }
+    ensures same { take result one.now ≡ take result other.now }
+{
+    same_behind(one, other, 0)
+}
+
+/// The same of words of which those in front of this index are the same.
+#[inline(always)]
+fn same_behind(one: &[u64], other: &[u64], from: usize) -> usize
+    requires long { length one.now ≡ length other.now }
+    requires from { from ≤ length one.now }
+    requires same { take from one.now ≡ take from other.now }
     ensures within { result ≤ length one.now }
     ensures same { take result one.now ≡ take result other.now }
     ensures apart { result < length one.now → one.now ≢ other.now }
 {
-    for at in same_fours(one, other)..one.len() {
+    for at in same_fours(one, other, from)..one.len() {
         if one[at] != other[at] {
             return at;
         }
@@ -130,12 +172,14 @@ pub(crate) fn same_front(one: &[u64], other: &[u64]) -> usize
 }
 
 #[inline(always)]
-fn same_fours(one: &[u64], other: &[u64]) -> usize
-    requires { length one.now ≡ length other.now }
+fn same_fours(one: &[u64], other: &[u64], from: usize) -> usize
+    requires long { length one.now ≡ length other.now }
+    requires from { from ≤ length one.now }
+    requires same { take from one.now ≡ take from other.now }
     ensures within { result ≤ length one.now }
     ensures same { take result one.now ≡ take result other.now }
 {
-    let mut at = 0;
+    let mut at = from;
     while one.len() - at >= 4 {
         if !are_four_same(one, other, at) {
             return at;
@@ -146,11 +190,23 @@ fn same_fours(one: &[u64], other: &[u64]) -> usize
 }
 
 #[inline(always)]
+fn are_eight_same(one: &[u64], other: &[u64], at: usize) -> bool
+    requires one { at + 8 ≤ length one.now }
+    requires other { at + 8 ≤ length other.now }
+    ensures same { result ≡ true → take at one.now ≡ take at other.now
+        → take (at + 8) one.now ≡ take (at + 8) other.now }
+    ensures apart { result ≡ false → one.now ≢ other.now }
+{
+    are_four_same(one, other, at) & are_four_same(one, other, at + 4)
+}
+
+#[inline(always)]
 fn are_four_same(one: &[u64], other: &[u64], at: usize) -> bool
     requires one { at + 4 ≤ length one.now }
     requires other { at + 4 ≤ length other.now }
-    ensures { result ≡ true → take at one.now ≡ take at other.now
+    ensures same { result ≡ true → take at one.now ≡ take at other.now
         → take (at + 4) one.now ≡ take (at + 4) other.now }
+    ensures apart { result ≡ false → one.now ≢ other.now }
 {
     (one[at] == other[at])
         & (one[at + 1] == other[at + 1])

@@ -1,7 +1,9 @@
 //! What the definitions owe the reader, each law the contract of a function that does nothing.
 ghost use Rattle.std.specs.Prelude.{ℕ, ◌≤◌, List};
+ghost use Rattle.group_keys.specs.declared.key_set.KeySet.{KeySet};
 ghost use Rattle.group_keys.specs.declared.ring.Ring.{Ring};
 ghost use Rattle.key_service.specs.Laws.{IsServedRing};
+ghost use Rattle.key_laws.specs.Lower.{AreNoHigher, ChangesNothingSent};
 ghost use Rattle.key_laws.specs.Pulled.{HasSendersKeys, IsCoveredSender, IsPullersGuard, IsReadersGuard, OpensMade, PassesMade, RestoresMade, StaysPublisher};
 ghost use Rattle.key_laws.specs.Rising.{AcceptsNoLowerToken};
 ghost use Rattle.message_guard.specs.declared.guard.Guard.{Guard};
@@ -50,4 +52,11 @@ pub fn tokens_never_fall()
     ensures sender { (s : SenderState) (steps : List SenderStep)
         → s.keys.token ≤ (after s steps).keys.token }
     ensures guard { (first : List TokenKeys) → AcceptsNoLowerToken first }
+{}
+
+/// A ring without a higher token than the one in use changes nothing that is sent: the sender keeps token, keys and number at whichever
+/// moment, and makes the same datagrams, until a ring brings a higher token.
+pub fn a_ring_of_lower_tokens_changes_nothing_sent()
+    ensures { (s : SenderState) (sets : List KeySet) → AreNoHigher s.keys.token sets
+        → ChangesNothingSent s sets }
 {}

@@ -9,6 +9,7 @@ mod witness;
 pub use laws::{
     a_guard_of_a_pulled_ring_has_the_senders_keys, a_guard_of_a_pulled_ring_opens_what_was_sent,
     a_publishers_sender_goes_on, a_pullers_guard_opens_what_was_sent,
-    a_readers_guard_is_a_pullers_guard, tokens_never_fall,
+    a_readers_guard_is_a_pullers_guard, a_ring_of_lower_tokens_changes_nothing_sent,
+    tokens_never_fall,
 };
 pub use witness::a_small_ring_meets_the_premises;

@@ -11,14 +11,11 @@ ghost use Rattle.lane_groups.specs.Places.{HasPast, HasWriters, IsForgotten, IsN
 ghost use Rattle.lane_groups.specs.Passing.{HasAdvanced, MayPass, MayPassIf, Passes, PassesIf, Turns, spent_in};
 
 use message_guard::Sender;
-use ps_config::Config;
+use ps_config::{Config, MOST_WRITERS};
 use session_parts::{Told, group_part, turn_open, turn_secured};
 use std::alloc::Global;
 use ua_base::NoMemory;
 use writer_group::{Datagrams, Group, a_datagram_is_not_empty};
-
-/// The most writers of a group.
-const MOST_WRITERS: usize = 16;
 
 /// A group with the datagrams of its last turn.
 #[derive(Drop)]

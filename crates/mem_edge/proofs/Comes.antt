@@ -143,6 +143,11 @@ pub told_waiting : (tells : Bool) (journal : List Entry) (waiting : List (List �
 told_waiting true journal waiting state is = ap (λ (w : LinkState). w.waiting) (let same : record { journal = journal; waiting = waiting } ≡ state = cc in same)
 told_waiting false journal waiting state is = cc
 
+-- nothing is told, whatever is kept
+pub none_told : (tells : Bool) (journal now : List Entry) (waiting left : List (List ℕ)) → state_of tells now left ≡ None → state_of tells journal waiting ≡ None
+none_told true journal now waiting left none = cc
+none_told false journal now waiting left none = refl
+
 -- the first that waits
 pub waiting_taken : (shown : Source → List ℕ) (queue : List Source) (next : ℕ) (p : Source) → next < length queue → p ≡ get_or queue next p → map shown (drop next queue) ≡ shown p ∷ map shown (drop (next + 1) queue)
 waiting_taken shown queue next p lt is = ap (map shown) (drop-cons queue next p lt) ∙ rw (add-one, ← is) refl

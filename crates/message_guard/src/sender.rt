@@ -149,7 +149,8 @@ impl Sender {
     pub fn front(&mut self, mode: Mode) -> SecurityPart<'_>
         requires room { self.old.used < 4294967295 }
         requires secured { IsTrue (is_secured mode) }
-        ensures* after { sem 𝓛 (follows_so the_row the_row self.entry.ghost_name none (λ _ _. ⊤) (λ s. s ≡ advanced mode self.old)) }
+        ensures* after { sem 𝓛 (follows_so the_row the_row self.entry.ghost_name none (λ _ _. ⊤)
+            (λ s. s ≡ advanced mode self.old)) }
         ensures front { security_in result ≡ front_value mode (advanced mode self.old) }
         ensures written { IsSendersSecurity (security_in result) }
     {
@@ -193,7 +194,8 @@ impl Sender {
     }
 
     fn carries_front(&self, mode: Mode, security: &Option<SecurityPart<'_>>) -> bool
-        ensures { IsTrue result ↔ (if_there security_in security.now ≡ Some (front_value mode self.now)) }
+        ensures { IsTrue result
+            ↔ (if_there security_in security.now ≡ Some (front_value mode self.now)) }
     {
         let Some(part) = security else {
             return false;

@@ -16,32 +16,37 @@ pub fn packed_frames_are_the_frames()
 
 /// Each pack has a frame, and fits with its sizes and further writer ids, or is one frame that doesn't fit and is cut.
 pub fn packs_fit_or_are_cut()
-    ensures frames { (room : ℕ) (frames : List (List ℕ)) → All (IsSound length room) (packs_of length room frames) }
+    ensures frames { (room : ℕ) (frames : List (List ℕ))
+        → All (IsSound length room) (packs_of length room frames) }
     ensures parts { (room : ℕ) (parts : List (ℕ × List ℕ))
         → All (IsSound part_size room) (packs_of part_size room parts) }
 {}
 
 /// A pack is followed by another only where it is cut, or the other's first frame doesn't fit in it too.
 pub fn packs_are_filled()
-    ensures frames { (room : ℕ) (frames : List (List ℕ)) (before : List (Packed (List ℕ))) (pack next : Packed (List ℕ))
-        (after : List (Packed (List ℕ))) → packs_of length room frames ≡ before ++ pack ∷ next ∷ after
+    ensures frames { (room : ℕ) (frames : List (List ℕ)) (before : List (Packed (List ℕ)))
+        (pack next : Packed (List ℕ)) (after : List (Packed (List ℕ)))
+        → packs_of length room frames ≡ before ++ pack ∷ next ∷ after
         → IsFull length room pack next }
     ensures parts { (room : ℕ) (parts : List (ℕ × List ℕ)) (before : List (Packed (ℕ × List ℕ)))
         (pack next : Packed (ℕ × List ℕ)) (after : List (Packed (ℕ × List ℕ)))
-        → packs_of part_size room parts ≡ before ++ pack ∷ next ∷ after → IsFull part_size room pack next }
+        → packs_of part_size room parts ≡ before ++ pack ∷ next ∷ after
+        → IsFull part_size room pack next }
 {}
 
 /// What is told of the packs hangs on the frames' sizes alone.
 pub fn packs_are_told_by_sizes()
-    ensures frames { (room : ℕ) (frames : List (List ℕ))
-        → map pack_of (packs_of length room frames) ≡ map pack_of (packs_of (λ size. size) room (map length frames)) }
-    ensures parts { (room : ℕ) (parts : List (ℕ × List ℕ)) → map pack_of (packs_of part_size room parts)
+    ensures frames { (room : ℕ) (frames : List (List ℕ)) → map pack_of (packs_of length room frames)
+        ≡ map pack_of (packs_of (λ size. size) room (map length frames)) }
+    ensures parts { (room : ℕ) (parts : List (ℕ × List ℕ))
+        → map pack_of (packs_of part_size room parts)
         ≡ map pack_of (packs_of (λ size. size) room (map part_size parts)) }
 {}
 
 /// A payload has as many bytes as packing counts for its sizes and frames.
 pub fn payloads_are_as_long_as_counted()
-    ensures frames { (frames : List (List ℕ)) → payload_size length frames ≡ length (dynamic_payload frames) }
+    ensures frames { (frames : List (List ℕ))
+        → payload_size length frames ≡ length (dynamic_payload frames) }
     ensures parts { (parts : List (ℕ × List ℕ))
         → payload_size part_size parts ≡ length (dynamic_payload (frames_in parts)) }
 {}
@@ -60,12 +65,13 @@ pub fn payloads_are_split_again()
 pub fn frames_come_back_with_their_ids()
     ensures payload { (parts : List (ℕ × List ℕ)) → AreShort (frames_in parts)
         → parts_of (ids_in parts) (dynamic_payload (frames_in parts)) ≡ parts }
-    ensures several { (parts : List (ℕ × List ℕ)) (rest : List ℕ) → AreShort (frames_in parts) → 1 < length parts
+    ensures several { (parts : List (ℕ × List ℕ)) (rest : List ℕ) → AreShort (frames_in parts)
+        → 1 < length parts
         → parts_of (ids_in parts) (dynamic_payload (frames_in parts) ++ rest) ≡ parts }
 {}
 
 /// A payload with good sizes is that of the frames that it is split into, and a rest.
 pub fn split_payloads_are_laid_out()
-    ensures { (count : ℕ) (payload : List ℕ) → AreBytes payload → 1 < count → ¬ HasBadSizes count payload
-        → BeginsWithPayload payload (frames_of count payload) }
+    ensures { (count : ℕ) (payload : List ℕ) → AreBytes payload → 1 < count
+        → ¬ HasBadSizes count payload → BeginsWithPayload payload (frames_of count payload) }
 {}

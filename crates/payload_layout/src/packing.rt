@@ -45,8 +45,10 @@ impl Filling {
     fn takes(&self, size: u16, room: u32) -> bool
         requires few { self.now.pack.count ≤ 16 }
         requires small { self.now.bytes ≤ 1048560 }
-        ensures { result ≡ (not self.now.pack.chunked
-            && nat_le (2 * (self.now.pack.count + 1) + (self.now.bytes + size) + 2 * self.now.pack.count) room) }
+        ensures { result
+            ≡ (not self.now.pack.chunked
+            && nat_le (2 * (self.now.pack.count + 1) + (self.now.bytes + size)
+            + 2 * self.now.pack.count) room) }
     {
         let count = u32::from(self.pack.count);
         let payload = 2 * (count + 1) + (self.bytes + u32::from(size));

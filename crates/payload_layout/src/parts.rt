@@ -82,7 +82,8 @@ fn put_sizes(pen: &mut Pen<'_>, sizes: &[u16])
 /// Finds the frames of a payload that has this many: one for each writer id of the header. What stands behind the last is
 /// ignored, but for one frame, which is all of the payload. Bad sizes leave `parts` as it was.
 pub fn split(payload: &[u8], count: u8, parts: &mut Parts) -> Result<(), BadSizes>
-    ensures frames { OnOk result (map (frame_at payload.now) parts.new.items ≡ frames_of count payload.now) }
+    ensures frames { OnOk result (map (frame_at payload.now) parts.new.items
+        ≡ frames_of count payload.now) }
     ensures within { OnOk result (All (IsWithin payload.now) parts.new.items) }
     ensures in_order { OnOk result (1 < count → StandBehind (2 * count) parts.new.items) }
     ensures refused { IsErr result ↔ HasBadSizes count payload.now }
@@ -113,7 +114,8 @@ fn fill(parts: &mut Parts, count: u8)
 fn find(payload: &[u8], count: u8, places: &mut [Part])
     requires good { ¬ HasBadSizes count payload.now }
     requires places { count ≤ length places.old }
-    ensures frames { map (frame_at payload.now) (take count places.new) ≡ frames_of count payload.now }
+    ensures frames { map (frame_at payload.now) (take count places.new)
+        ≡ frames_of count payload.now }
     ensures within { All (IsWithin payload.now) (take count places.new) }
     ensures in_order { 1 < count → StandBehind (2 * count) (take count places.new) }
 {

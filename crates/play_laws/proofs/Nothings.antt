@@ -1,16 +1,22 @@
--- A session's journal has few answers Nothing.
-use Rattle.std.proofs.Common.{◌≡◌, refl, ap, ◌∙◌, arith, ℕ, zero, suc, ◌+◌, ◌-◌, ◌≤◌, Bool, true, false, List, [], ◌∷◌, ◌++◌}
+-- A session's journal has few answers Nothing, so a link in memory that was made anew tells to its end.
+use Rattle.std.proofs.Common.{◌≡◌, refl, ap, ◌∙◌, arith, ℕ, zero, suc, ◌+◌, ◌-◌, ◌≤◌, Bool, true, false, List, [], ◌∷◌, ◌++◌, Option, Some, None, Ok}
 use Rattle.std.specs.Prelude.{◌^◌, replicate, IsSome}
-use Rattle.ua_base.specs.Journal.{Entry, Sent, SendFailed, Got, Empty, Long, ReceiveFailed}
+use Rattle.std.proofs.lemmas.Bool.{false≢true}
+use Rattle.ua_base.specs.declared.link.Fate.{Fate}
+use Rattle.ua_base.specs.Journal.{Entry, Sent, SendFailed, Got, Empty, Long, ReceiveFailed, LinkState}
 use Rattle.ua_base.specs.Links.{TellsOn}
 use Rattle.mem_edge.specs.declared.memory_link.MemoryLink.{MemoryLink}
 use Rattle.mem_edge.specs.Marks.{EndsInNothings}
 use Rattle.mem_edge.specs.MemoryLinks.{patience_of, told_by}
+use Rattle.ps_config.specs.BuiltIn.{built_in_config}
+use Rattle.ps_report.specs.declared.closed.Closed.{Closed}
 use Rattle.session_model.specs.Counts.{pumps_in, session_nothings, ticks_in}
 use Rattle.session_model.specs.Keeping.{AreStepsOf}
 use Rattle.session_model.specs.Sends.{IsPump, IsRun, Send, journal, send_entries, sends_of}
 use Rattle.session_model.specs.Steps.{Plan, Step, Enable, Disable, Append, Tick, Pump}
 use Rattle.session_model.proofs.Lasting.{ticks-few}
+use Rattle.script_player.specs.Plays.{IsPlayOf}
+use Rattle.play_laws.specs.Small.{IsNewLink, IsPlayedOver, PlaysOver, small_script}
 
 -- how many answers Nothing there are
 abbrev nothings : List Entry → ℕ
@@ -93,3 +99,19 @@ pub tells-to-the-end : (old new : MemoryLink) → patience_of old ≡ 2 ^ 64 - 1
 tells-to-the-end old new whole is on =
     let few : 4096 + 1 ≤ patience_of old = omega (arith, whole) in
     on.tells few is
+
+state-of : (told : Option LinkState) → IsSome told → (state : LinkState) × (told ≡ Some state)
+state-of None is = absurd (false≢true is)
+state-of (Some state) is = (state, refl)
+
+pub played-over : (old new : MemoryLink) (fates : List (ℕ × Fate)) (closed : Closed) → IsNewLink old → PlaysOver old new fates (Ok closed)
+    → IsPlayOf built_in_config (small_script fates) (told_by new) closed → IsPlayedOver new fates closed
+played-over old new fates closed made over played =
+    let told = state-of (told_by new) (tells-to-the-end old new made.patience made.tells over.lasts) in
+    record {
+      state = told.0;
+      tells = told.1;
+      made = over.once.making ∙ made.made;
+      opened = over.opened refl;
+      played = played;
+    }

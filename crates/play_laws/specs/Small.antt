@@ -1,5 +1,5 @@
 -- A script that gives datagrams their fates, played over a link in memory: `write 0 demo a=7`, `tick 100`, and the fates.
-use Rattle.std.specs.Prelude.{◌≡◌, ℕ, false, List, [], ◌∷◌, map, replicate, Option, Some}
+use Rattle.std.specs.Prelude.{◌≡◌, ◌-◌, ◌^◌, ℕ, false, List, [], ◌∷◌, map, replicate, Option, Some, IsSome, Result, Err, IsOk}
 use Rattle.dataset_meta.specs.DataValues.{DataValue}
 use Rattle.row_words.specs.declared.patch.Patch.{Patch}
 use Rattle.pubsub_model.specs.declared.reading.Why.{Why}
@@ -7,7 +7,7 @@ use Rattle.ua_base.specs.declared.link.Fate.{Fate}
 use Rattle.ua_base.specs.Journal.{Empty, LinkState}
 use Rattle.ua_base.specs.Links.{Making}
 use Rattle.mem_edge.specs.declared.memory_link.MemoryLink.{MemoryLink}
-use Rattle.mem_edge.specs.MemoryLinks.{made_by, opened_by, told_by}
+use Rattle.mem_edge.specs.MemoryLinks.{faults_of, made_by, opened_by, openings_of, patience_of, told_by}
 use Rattle.ps_config.specs.BuiltIn.{built_in_config, demo}
 use Rattle.ps_report.specs.declared.closed.Closed.{Closed}
 use Rattle.ps_script.specs.declared.script.Act.TheVariants as act
@@ -17,6 +17,9 @@ use Rattle.session_model.specs.Closing.{IsClosedAfter}
 use Rattle.session_model.specs.Events.{reader_at}
 use Rattle.session_model.specs.Steps.{Step, Pump}
 use Rattle.session_laws.specs.Witness.{closing_on, first_session, last_receives, lost_session, small_plan}
+use Rattle.script_player.specs.declared.play.PlayEnd.{PlayEnd}
+use Rattle.script_player.specs.declared.play.PlayEnd.TheVariants.{Unopened}
+use Rattle.script_player.specs.Openings.{PerformsOver}
 use Rattle.script_player.specs.Plays.{IsPlayOf, opening_of}
 
 -- ---- the script
@@ -42,6 +45,18 @@ small_script fates = record { lines = write_line ∷ tick_line ∷ map fate_line
 -- it does nothing of its own
 abbrev pub obedient : Making
 obedient = record { injected = []; send_fails = []; receive_fails = []; open_fails = false }
+
+-- it was made anew, and does nothing of its own
+pub record IsNewLink (link : MemoryLink) : Type 0 where
+  pub tells : IsSome (told_by link)
+  pub patience : patience_of link ≡ 2 ^ 64 - 1
+  pub made : made_by link ≡ obedient
+
+-- what `play_script` says of the link that it plays the script over
+abbrev pub PlaysOver : MemoryLink → MemoryLink → List (ℕ × Fate) → Result Closed PlayEnd → Type 0
+PlaysOver old new fates result =
+    PerformsOver told_by patience_of opened_by faults_of made_by openings_of (opening_of built_in_config (small_script fates))
+    (IsOk result) (result ≡ Err Unopened) old new
 
 -- the script was played over the link, which obeys its fates alone and tells to the end
 pub record IsPlayedOver (link : MemoryLink) (fates : List (ℕ × Fate)) (closed : Closed) : Type 0 where

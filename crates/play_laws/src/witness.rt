@@ -1,12 +1,16 @@
 //! A script with a fate, played over a link in memory.
-ghost use Rattle.std.specs.Prelude.{[], ◌∷◌, Some, None};
+ghost use Rattle.std.specs.Prelude.{[], ◌∷◌, ℕ, List, Some, None, Ok};
 ghost use Rattle.pubsub_model.specs.declared.reading.Why.TheVariants.{Start};
+ghost use Rattle.ua_base.specs.declared.link.Fate.{Fate};
 ghost use Rattle.ua_base.specs.declared.link.Fate.TheVariants as fates;
 ghost use Rattle.mem_edge.specs.declared.memory_link.MemoryLink.{MemoryLink as LinkValue};
+ghost use Rattle.mem_edge.specs.MemoryLinks.{told_by};
+ghost use Rattle.ps_config.specs.BuiltIn.{built_in_config};
 ghost use Rattle.ps_report.specs.declared.closed.Closed.{Closed};
 ghost use Rattle.session_laws.specs.Witness.{small_row};
+ghost use Rattle.script_player.specs.Plays.{IsPlayOf};
 ghost use Rattle.play_laws.specs.Reports.{ReportsSo, both_lost_run, both_lost_text, first_lost_run, first_lost_text, last_lost_run, last_lost_text};
-ghost use Rattle.play_laws.specs.Small.{EndsBehind, IsPlayedOver, both_lost, first_lost, last_lost};
+ghost use Rattle.play_laws.specs.Small.{EndsBehind, IsNewLink, IsPlayedOver, PlaysOver, both_lost, first_lost, last_lost, small_script};
 
 /// The script `write 0 demo a=7`, `tick 100` with a fate, played with the built-in configuration over a link in memory that was
 /// made to do nothing of its own and tells to the end. With `fate 0 drop` the reader gets no start from the first tick, whose key
@@ -32,4 +36,12 @@ pub fn a_script_with_a_fate_reports_so()
     ensures both { (link : LinkValue) (closed : Closed)
         → IsPlayedOver link ((0, fates.Drop) ∷ (1, fates.Drop) ∷ []) closed
         → ReportsSo closed both_lost_run both_lost_text }
+{}
+
+/// What `play_script` says of a play of such a script over a link in memory that was made anew to do nothing of its own is that the
+/// script was played over it so.
+pub fn a_play_over_a_new_link_is_played_over_it()
+    ensures { (old new : LinkValue) (fates : List (ℕ × Fate)) (closed : Closed) → IsNewLink old
+        → PlaysOver old new fates (Ok closed)
+        → IsPlayOf built_in_config (small_script fates) (told_by new) closed → IsPlayedOver new fates closed }
 {}

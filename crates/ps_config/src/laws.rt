@@ -58,8 +58,8 @@ pub fn a_group_with_room_has_room_for_a_keep_alive()
     ensures turn { (publisher : Publisher) (metas : List MetaData) (group : GroupPart)
         → IsRoomy publisher metas group
         → datagrams_in (chunk_room publisher group) metas group.writer ≤ 1024 }
-    ensures frame { (publisher : Publisher) (metas : List MetaData) (group : GroupPart) (ids : List ℕ)
-        → IsRoomy publisher metas group → length ids ≡ 2
+    ensures frame { (publisher : Publisher) (metas : List MetaData) (group : GroupPart)
+        (ids : List ℕ) → IsRoomy publisher metas group → length ids ≡ 2
         → frame_header publisher group ids + 12 + signature_len group.security ≤ group.max_size }
 {}
 

@@ -28,8 +28,8 @@ pub use laws::{
     the_built_in_configuration_is_sound, the_built_in_text_is_read, the_first_fault_is_told,
 };
 pub use parts::{
-    Config, GroupPart, KeyBytes, KeyGroupPart, KeyPart, Parts, PublisherPart, ReadGroupPart,
-    ReaderPart, WriterPart,
+    Config, GroupPart, KeyBytes, KeyGroupPart, KeyPart, MOST_READERS, MOST_WRITERS, Parts,
+    PublisherPart, ReadGroupPart, ReaderPart, WriterPart,
 };
 pub use read::{ConfigEnd, name_numbered, read_config};
 pub use ring::ring_of;

@@ -133,6 +133,12 @@ fn array_of(bytes: &[u8]) -> ArrayVec<u8, 32>
     room
 }
 
+/// The most writers of a configuration.
+pub const MOST_WRITERS: usize = 16;
+
+/// The most readers of a configuration.
+pub const MOST_READERS: usize = 16;
+
 /// A configuration (OPC 10000-14, PubSubConfiguration): a field for each table, of its name.
 #[derive(Debug, Drop)]
 pub struct Config {
@@ -141,9 +147,9 @@ pub struct Config {
     pub dataset: Parts<Meta>,
     /// At most 4.
     pub keygroup: Parts<KeyGroupPart>,
-    /// At most 4, with 16 writers in all.
+    /// At most 4, with `MOST_WRITERS` in all.
     pub group: Parts<GroupPart>,
-    /// At most 4, with 16 readers in all.
+    /// At most 4, with `MOST_READERS` in all.
     pub readgroup: Parts<ReadGroupPart>,
 }
 

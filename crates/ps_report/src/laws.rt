@@ -18,8 +18,10 @@ pub fn lines_read_so()
     ensures group { group_line (codes "g1") (record { state = Operational; sent = 2 })
         ≡ codes "group g1 operational sent 2\n" }
     ensures writer { writer_line (codes "w1")
-        (record { state = Paused; log = (record { 0 = 0; 1 = 1 }) ∷ (record { 0 = 1; 1 = 1 }) ∷ [] })
-        ≡ codes "writer w1 paused 2: 0=1 1=1\n" }
+        (record {
+          state = Paused;
+          log = (record { 0 = 0; 1 = 1 }) ∷ (record { 0 = 1; 1 = 1 }) ∷ [];
+        }) ≡ codes "writer w1 paused 2: 0=1 1=1\n" }
     ensures read_group { read_group_line (codes "rg1") (record {
       state = Operational;
       taken = 2;

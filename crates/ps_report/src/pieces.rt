@@ -67,7 +67,8 @@ pub fn put_component(
     name: &Name32,
     state: State,
 ) -> Result<(), NoMemory>
-    ensures { OnOk result (out.new.items ≡ out.old.items ++ component_text word.now name.now state) }
+    ensures { OnOk result (out.new.items ≡ out.old.items ++ component_text word.now
+        name.now state) }
 {
     put(out, word)?;
     put(out, b" ")?;

@@ -86,7 +86,8 @@ fn put_held_row(
     end: &ReaderEnd,
 ) -> Result<(), NoMemory>
     requires { HoldsRow sets.now part.now end.now }
-    ensures { OnOk result (out.new.items ≡ out.old.items ++ load_held_text sets.now part.now end.now) }
+    ensures { OnOk result (out.new.items ≡ out.old.items ++ load_held_text sets.now
+        part.now end.now) }
 {
     match &end.held {
         None => put_waits(out, end.why),

@@ -56,9 +56,9 @@ pub fn there_is_one_reader_of_values()
 /// Whatever text a script is accepted from, what it names is there and its numbers are within their
 /// limits. Where links have no fates, it gives none.
 pub fn an_accepted_script_is_sound()
-    ensures sound { (reader : ValueReader) (config : ConfigValue) (bytes : List ℕ) (takes_fates : Bool)
-        (found : ScriptValue) → IsSound config → script reader config bytes takes_fates ≡ Ok found
-        → IsScript config found }
+    ensures sound { (reader : ValueReader) (config : ConfigValue) (bytes : List ℕ)
+        (takes_fates : Bool) (found : ScriptValue) → IsSound config
+        → script reader config bytes takes_fates ≡ Ok found → IsScript config found }
     ensures fateless { (reader : ValueReader) (config : ConfigValue) (bytes : List ℕ)
         (found : ScriptValue) → IsSound config → script reader config bytes false ≡ Ok found
         → fates_of found.lines ≡ [] }
@@ -67,17 +67,21 @@ pub fn an_accepted_script_is_sound()
 /// A script is refused exactly by the first line at which a fault stands and by the first of that
 /// line's faults, and accepted exactly where no fault stands at any line.
 pub fn the_first_line_with_a_fault_is_told()
-    ensures refused { (reader : ValueReader) (config : ConfigValue) (bytes : List ℕ) (takes_fates : Bool)
-        (line : ℕ) (fault : Fault) → script reader config bytes takes_fates ≡ Err (line, fault)
+    ensures refused { (reader : ValueReader) (config : ConfigValue) (bytes : List ℕ)
+        (takes_fates : Bool) (line : ℕ) (fault : Fault)
+        → script reader config bytes takes_fates ≡ Err (line, fault)
         → IsRefusedBy reader config takes_fates bytes line fault }
-    ensures told { (reader : ValueReader) (config : ConfigValue) (bytes : List ℕ) (takes_fates : Bool)
-        (line : ℕ) (fault : Fault) → IsRefusedBy reader config takes_fates bytes line fault
+    ensures told { (reader : ValueReader) (config : ConfigValue) (bytes : List ℕ)
+        (takes_fates : Bool) (line : ℕ) (fault : Fault)
+        → IsRefusedBy reader config takes_fates bytes line fault
         → script reader config bytes takes_fates ≡ Err (line, fault) }
-    ensures accepted { (reader : ValueReader) (config : ConfigValue) (bytes : List ℕ) (takes_fates : Bool)
-        (found : ScriptValue) → script reader config bytes takes_fates ≡ Ok found
+    ensures accepted { (reader : ValueReader) (config : ConfigValue) (bytes : List ℕ)
+        (takes_fates : Bool) (found : ScriptValue)
+        → script reader config bytes takes_fates ≡ Ok found
         → IsAccepted reader config takes_fates bytes }
-    ensures untold { (reader : ValueReader) (config : ConfigValue) (bytes : List ℕ) (takes_fates : Bool)
-        → IsAccepted reader config takes_fates bytes → IsOk (script reader config bytes takes_fates) }
+    ensures untold { (reader : ValueReader) (config : ConfigValue) (bytes : List ℕ)
+        (takes_fates : Bool) → IsAccepted reader config takes_fates bytes
+        → IsOk (script reader config bytes takes_fates) }
 {}
 
 /// No group has a writer that can't tell of a new field of a data set exactly where all its writers

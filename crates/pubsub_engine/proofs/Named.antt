@@ -2,9 +2,7 @@
 use Rattle.std.proofs.Common.{◌≡◌, ◌≢◌, ◌⊎◌, inl, inr, refl, sym, ap, ◌∙◌, subst, arith, ℕ, suc, ◌+◌, ◌-◌, ◌<◌, ◌≤◌, ◌==◌, Bool, true, false, cond, List, [], ◌∷◌, ◌++◌, length, map, drop, zip, find, flat_map, get_or, slice_get, Option, Some, None, option_map, eq-eqb}
 use Rattle.std.specs.List.{range_with_len}
 use Rattle.std.specs.Option.{option_map_or, option_or}
-use Rattle.std.proofs.lemmas.Bool.{eqb-true, false≢true}
 use Rattle.std.proofs.lemmas.Bool.Decides.{eqb_tells}
-use Rattle.std.proofs.lemmas.Slice.Eq.{bytes_eq-Decides}
 use Rattle.std.proofs.lemmas.List.{drop_more, length-map}
 use Rattle.std.proofs.lemmas.List.Folds.{find-append}
 use Rattle.std.proofs.lemmas.List.FromFn.{length-map-range_with_len}
@@ -12,8 +10,6 @@ use Rattle.std.proofs.lemmas.Option.{slice_get-get_or, slice_get-map}
 use Rattle.std.proofs.Math.Seq.{drop-length}
 use Rattle.pubsub_states.proofs.Families.{slice_get-front, slice_get-skip}
 use Rattle.session_model.proofs.Sending.{zip-append}
-use Rattle.config_tables.specs.declared.publisher.Publisher.{Publisher as PublisherId}
-use Rattle.config_tables.specs.declared.publisher.Publisher.TheVariants as ids
 use Rattle.ps_config.specs.declared.parts.Config.{Config}
 use Rattle.ps_config.specs.declared.parts.GroupPart.{GroupPart}
 use Rattle.ps_config.specs.declared.parts.WriterPart.{WriterPart}
@@ -24,7 +20,7 @@ use Rattle.ps_report.specs.Told.{grouped_readers}
 use Rattle.writer_group.specs.Parts.{group_at, no_group}
 use Rattle.session_model.specs.Deeds.{writer_indexes}
 use Rattle.session_model.specs.Closing.{MemberPlace, writer_places}
-use Rattle.pubsub_engine.specs.Logs.{is_same_publisher, log_by, logs_told, place_in, place_named, place_within}
+use Rattle.pubsub_engine.specs.Logs.{log_by, logs_told, place_in, place_named, place_within}
 
 -- ---- lists
 
@@ -176,26 +172,6 @@ reader-behind config r left group low at behind =
 
 pub readers-none : (config : Config) (left : ℕ) → slice_get (rest_readers config (length config.readgroup)) left ≡ None
 readers-none config left = ap (λ (groups : List ReadGroupPart). slice_get (grouped_readers groups) left) (drop-length config.readgroup)
-
--- ---- publishers
-
-pub same-publisher : (one other : PublisherId) → is_same_publisher one other ≡ true → one ≡ other
-same-publisher (ids.U8 m) (ids.U8 n) e = ap ids.U8 (eqb-true m n e)
-same-publisher (ids.U16 m) (ids.U16 n) e = ap ids.U16 (eqb-true m n e)
-same-publisher (ids.U32 m) (ids.U32 n) e = ap ids.U32 (eqb-true m n e)
-same-publisher (ids.U64 m) (ids.U64 n) e = ap ids.U64 (eqb-true m n e)
-same-publisher (ids.Text m) (ids.Text n) e = ap ids.Text ((bytes_eq-Decides m n).0 e)
-same-publisher one other e = absurd (false≢true e)
-
-self-publisher : (one : PublisherId) → is_same_publisher one one ≡ true
-self-publisher (ids.U8 m) = eq-eqb m m refl
-self-publisher (ids.U16 m) = eq-eqb m m refl
-self-publisher (ids.U32 m) = eq-eqb m m refl
-self-publisher (ids.U64 m) = eq-eqb m m refl
-self-publisher (ids.Text m) = (bytes_eq-Decides m m).1 refl
-
-pub other-publisher : (one other : PublisherId) → is_same_publisher one other ≡ false → one ≢ other
-other-publisher one other e same = false≢true (sym e ∙ subst (λ (it : PublisherId). is_same_publisher one it ≡ true) same (self-publisher one))
 
 -- ---- no versions are told
 

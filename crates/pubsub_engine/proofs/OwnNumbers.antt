@@ -15,14 +15,14 @@ use Rattle.session_model.specs.Lives.{Lived, account_in, log_in, steps_in}
 use Rattle.session_model.proofs.Lasting.{ticks-few}
 use Rattle.session_model.proofs.Ticks.{log-few-in}
 use Rattle.pubsub_engine.specs.declared.session.Session.{Session}
-use Rattle.pubsub_engine.specs.Holding.{TellsVersions, ticks_of}
+use Rattle.pubsub_engine.specs.Holding.{ticks_of}
 use Rattle.pubsub_engine.specs.Living.{StandsIn}
 use Rattle.pubsub_engine.specs.Logs.{HasOwnNumbers}
 
 same-index : (first count j k one other : ℕ) → count ≤ 65536 → j < count → k < count → one ≡ first + j → other ≡ first + k → one % 65536 ≡ other % 65536 → j ≡ k
 same-index first count j k one other few low_j low_k one_is other_is same = omega arith
 
-pub own-numbers : (p : Plan) (life : List Lived) (s : Session) (g w : ℕ) → TellsVersions s → StandsIn p life s → HasOwnNumbers (log_in p life g w)
+pub own-numbers : (p : Plan) (life : List Lived) (s : Session) (g w : ℕ) → ticks_of s < 65536 → StandsIn p life s → HasOwnNumbers (log_in p life g w)
 own-numbers p life s g w few stands j k one other at_j at_k same =
     let log = log_in p life g w in
     let settings : Settings = model_settings (settings_of (writer_at (group_at p.config g) w)) in

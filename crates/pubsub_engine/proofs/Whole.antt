@@ -47,7 +47,7 @@ use Rattle.session_parts.specs.Showing.{link_of}
 use Rattle.session_parts.specs.Standing.{AreReceivesIn, AreSendsIn}
 use Rattle.pubsub_engine.specs.declared.session.Session.{Session}
 use Rattle.pubsub_engine.specs.Authored.{AreHistories, AreInOrder, AreLooksAt, watches_in_bytes}
-use Rattle.pubsub_engine.specs.Holding.{IsSession, KeepsWholeLogs, TellsVersions, logged_of, plan_of, tells_versions, ticks_of}
+use Rattle.pubsub_engine.specs.Holding.{IsSession, KeepsWholeLogs, logged_of, plan_of, tells_versions, ticks_of}
 use Rattle.pubsub_engine.specs.Standing.{Stands}
 use Rattle.pubsub_engine.specs.Living.{StandsAs, StandsIn}
 use Rattle.pubsub_engine.specs.Logs.{log_after, log_by, logs_told}
@@ -296,24 +296,25 @@ is-closed numbers p steps s dones sets closed tells is stands order = record {
     by : IsClosedBy (tells_versions s) (log_after (logged_of s) p.config (deeds p steps)) p steps (account_of p steps) closed
     by = closed-by p steps (account_of p steps) s dones sets closed tells is (as-stands p steps s stands)
 
-pub versions-told : (s : Session) → TellsVersions s → tells_versions s ≡ true
-versions-told s few = let low : ticks_of s < 65536 = few in grind (arith, nat_tests)
+pub versions-told : (s : Session) → KeepsWholeLogs s → tells_versions s ≡ true
+versions-told s keeps = let low : ticks_of s < logged_of s = keeps in grind (arith, nat_tests)
 
--- where the logs keep all data frames, and versions are told
-pub is-whole : (p : Plan) (steps : List Step) (s : Session) (closed : Closed) → KeepsWholeLogs s → TellsVersions s → Stands p steps s
+-- where the logs keep all data frames
+pub is-whole : (p : Plan) (steps : List Step) (s : Session) (closed : Closed) → KeepsWholeLogs s → Stands p steps s
     → IsClosedTelling (tells_versions s) (logs_cut (logged_of s) p steps) p steps closed → IsClosedAfter p steps closed
-is-whole p steps s closed keeps few stands is =
+is-whole p steps s closed keeps stands is =
     subst (λ (logs : ℕ → ℕ → List (ℕ × ℕ)). IsClosedTelling true logs p steps closed) (logs-whole (logged_of s) (ticks_of s) p steps stands.steps_are keeps)
-    (subst (λ (versions : Bool). IsClosedTelling versions (logs_cut (logged_of s) p steps) p steps closed) (versions-told s few) is)
+    (subst (λ (versions : Bool). IsClosedTelling versions (logs_cut (logged_of s) p steps) p steps closed) (versions-told s keeps) is)
 
 -- in a life
 pub logs-lived : (p : Plan) (life : List Lived) (s : Session) → KeepsWholeLogs s → AreStepsOf (ticks_of s) p (steps_in life) → logs_in (logged_of s) p life ≡ log_in p life
 logs-lived p life s keeps are = λ i g w. log-whole-in (logged_of s) (ticks_of s) p life are keeps g w i
 
 pub is-whole-lived : (p : Plan) (life : List Lived) (s : Session) (closed : Closed) → KeepsWholeLogs s → StandsIn p life s → IsClosedIn (tells_versions s) (logged_of s) p life closed
-    → IsClosedWhole (tells_versions s) p life closed
+    → IsClosedWhole p life closed
 is-whole-lived p life s closed keeps stands is =
-    subst (λ (logs : ℕ → ℕ → List (ℕ × ℕ)). IsClosedBy (tells_versions s) logs p (steps_in life) (account_in p life) closed) (logs-lived p life s keeps stands.steps_are) is
+    subst (λ (logs : ℕ → ℕ → List (ℕ × ℕ)). IsClosedBy true logs p (steps_in life) (account_in p life) closed) (logs-lived p life s keeps stands.steps_are)
+    (subst (λ (versions : Bool). IsClosedBy versions (logs_in (logged_of s) p life) p (steps_in life) (account_in p life) closed) (versions-told s keeps) is)
 
 read-on-numbered : ((setting : Setting) (group : PlainGroup) (event : Event) → HaveNumbers setting group → HaveNumbers setting (step setting group event)) → (setting : Setting) (value : PlainGroup)
     (befell : List Event) → HaveNumbers setting value → HaveNumbers setting (read_on setting value befell)

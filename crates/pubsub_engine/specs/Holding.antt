@@ -1,5 +1,5 @@
 -- What holds of a session between its calls, whatever it lived through: the conditions of the calls below.
-use Rattle.std.specs.Prelude.{◌≡◌, ◌⊎◌, ⊤, ℕ, ◌+◌, ◌-◌, ◌*◌, ◌^◌, ◌<◌, ◌≤◌, nat_lt, Bool, true, false, List, [], ◌∷◌, length, map, drop, slice_set, vec_len, All}
+use Rattle.std.specs.Prelude.{◌≡◌, ◌⊎◌, ⊤, ℕ, ◌+◌, ◌-◌, ◌*◌, ◌^◌, ◌<◌, ◌≤◌, nat_lt, ◌||◌, Bool, true, false, List, [], ◌∷◌, length, map, drop, slice_set, vec_len, All}
 use Rattle.dataset_meta.specs.declared.field.Field.{Field}
 use Rattle.dataset_meta.specs.Metas.{MetaData, grown}
 use Rattle.ps_config.specs.declared.parts.Config.{Config}
@@ -109,13 +109,10 @@ logged_of s = s.left.logged
 abbrev pub KeepsWholeLogs : Session → Type 0
 KeepsWholeLogs s = ticks_of s < logged_of s
 
--- A writer has no more data frames than there are numbers of 16 bits, so each has a number of its own: where that isn't sure no version is told of a row
--- that a reader holds.
+-- The version of a row that a reader holds is found by its number, of 16 bits: in whole logs, of the last data frame with the number; and in any where a
+-- writer has no more data frames than there are numbers, so that each has one of its own. Else no version is told of such a row.
 abbrev pub tells_versions : Session → Bool
-tells_versions s = nat_lt (ticks_of s) 65536
-
-abbrev pub TellsVersions : Session → Type 0
-TellsVersions s = ticks_of s < 65536
+tells_versions s = nat_lt (ticks_of s) 65536 || nat_lt (ticks_of s) (logged_of s)
 
 -- how many stores a target may have
 abbrev pub stores_limit : Session → ℕ

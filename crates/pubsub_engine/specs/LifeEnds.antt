@@ -1,5 +1,5 @@
 -- What a session is when it is closed, by what became of it: behind steps alone, and in a life in which rings renew its keys.
-use Rattle.std.specs.Prelude.{◌≡◌, ◌≢◌, ℕ, Bool, List, None, IfSome, map, option_and_then}
+use Rattle.std.specs.Prelude.{◌≡◌, ◌≢◌, ℕ, Bool, true, List, None, IfSome, map, option_and_then}
 use Rattle.std.specs.List.{AllZip}
 use Rattle.pubsub_model.specs.Answers.{version_of}
 use Rattle.ps_config.specs.declared.parts.Config.{Config}
@@ -77,5 +77,5 @@ abbrev pub IsClosedIn : Bool → ℕ → Plan → List Lived → Closed → Type
 IsClosedIn versions most p life closed = IsClosedBy versions (logs_in most p life) p (steps_in life) (account_in p life) closed
 
 -- with all data frames of each writer
-abbrev pub IsClosedWhole : Bool → Plan → List Lived → Closed → Type 0
-IsClosedWhole versions p life closed = IsClosedBy versions (log_in p life) p (steps_in life) (account_in p life) closed
+abbrev pub IsClosedWhole : Plan → List Lived → Closed → Type 0
+IsClosedWhole p life closed = IsClosedBy true (log_in p life) p (steps_in life) (account_in p life) closed

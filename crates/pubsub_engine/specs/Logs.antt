@@ -1,11 +1,9 @@
 -- The logs of this program's writers, and which of them a reader names.
-use Rattle.std.specs.Prelude.{◌≡◌, ◌≢◌, ℕ, ◌%◌, ◌==◌, Bool, true, false, bytes_eq, List, [], map, take, zip, find, slice_get, Option, Some, option_map}
+use Rattle.std.specs.Prelude.{◌≡◌, ◌≢◌, ℕ, ◌%◌, ◌==◌, Bool, true, false, List, [], map, take, zip, find, slice_get, Option, Some, option_map}
 use Rattle.std.specs.Option.{option_map_or}
 use Rattle.dataset_meta.specs.Metas.{MetaData}
 use Rattle.pubsub_model.specs.Cadence.{log_of}
 use Rattle.dataset_writer.specs.Turns.{model_settings}
-use Rattle.config_tables.specs.declared.publisher.Publisher.{Publisher as PublisherId}
-use Rattle.config_tables.specs.declared.publisher.Publisher.TheVariants as ids
 use Rattle.ps_config.specs.declared.parts.Config.{Config}
 use Rattle.ps_config.specs.declared.parts.GroupPart.{GroupPart}
 use Rattle.ps_config.specs.declared.parts.WriterPart.{WriterPart}
@@ -45,15 +43,6 @@ abbrev pub IsLogNamed : Bool → Config → Publisher → ℕ → List (ℕ × �
 IsLogNamed versions config publisher id log =
     (most : ℕ) (metas : List MetaData) (deeds : List Deed) → AreAllLogged most publisher.groups.items → HavePast config metas deeds publisher.groups.items
     → log ≡ log_by (logs_told versions (log_after most config deeds)) config id
-
--- both are one publisher
-abbrev pub is_same_publisher : PublisherId → PublisherId → Bool
-is_same_publisher (ids.U8 id) (ids.U8 other) = id == other
-is_same_publisher (ids.U16 id) (ids.U16 other) = id == other
-is_same_publisher (ids.U32 id) (ids.U32 other) = id == other
-is_same_publisher (ids.U64 id) (ids.U64 other) = id == other
-is_same_publisher (ids.Text text) (ids.Text other) = bytes_eq text other
-is_same_publisher one other = false
 
 -- the log that a reader, behind its read group, names: where the read group's publisher is this program that of the writer with the id, else none
 pub record IsLogRead (versions : Bool) (config : Config) (publisher : Publisher) (at : ReadGroupPart × ReaderPart) (log : List (ℕ × ℕ)) : Type 0 where

@@ -5,7 +5,7 @@ ghost use Rattle.session_model.specs.Steps.{Plan, Step};
 ghost use Rattle.session_model.specs.Closing.{IsClosedAfter, IsClosedTelling, TellsEndsIf};
 ghost use Rattle.session_model.specs.Deeds.{logs_cut};
 ghost use Rattle.session_model.specs.Lives.{Lived};
-ghost use Rattle.pubsub_engine.specs.Holding.{IsSession, KeepsWholeLogs, TellsVersions, logged_of, passes_of, plan_of, tells_versions};
+ghost use Rattle.pubsub_engine.specs.Holding.{IsSession, KeepsWholeLogs, logged_of, passes_of, plan_of, tells_versions};
 ghost use Rattle.pubsub_engine.specs.Standing.{Stands};
 ghost use Rattle.pubsub_engine.specs.Living.{StandsIn};
 ghost use Rattle.pubsub_engine.specs.LifeEnds.{IsClosedIn, IsClosedWhole};
@@ -27,17 +27,16 @@ use ua_base::NoMemory;
 
 impl Session<'_> {
     /// Ends the session. `dones` has what each thread leaves, in the order of threads. The log of each writer has the data frames
-    /// that it keeps, the first ones. Beside a row that a reader holds stands the version that the log has at its number; none of a
-    /// session in which more than 65,536 ticks may come, the closing one included, since there a number of 16 bits may be that of
-    /// several data frames.
+    /// that it keeps, the first ones. Beside a row that a reader holds stands the version that the log has at its number; none where
+    /// logs are cut, of a session in which more than 65,536 ticks may come, the closing one included: there a number of 16 bits may
+    /// be that of a data frame that the log keeps and of one that it doesn't.
     pub fn close(self, alloc: Global, dones: &[Done]) -> Result<Closed, NoMemory>
         requires session { IsSession self }
         ensures closed { (p : Plan) (steps : List Step) → Stands p steps self.entry → AreInOrder dones.now
             → let versions = tells_versions self.entry in
             IfOk result (IsClosedTelling versions (logs_cut (logged_of self.entry) p steps) p steps) }
-        ensures whole { KeepsWholeLogs self.entry → TellsVersions self.entry
-            → (p : Plan) (steps : List Step) → Stands p steps self.entry → AreInOrder dones.now
-            → IfOk result (IsClosedAfter p steps) }
+        ensures whole { KeepsWholeLogs self.entry → (p : Plan) (steps : List Step)
+            → Stands p steps self.entry → AreInOrder dones.now → IfOk result (IsClosedAfter p steps) }
         ensures histories { length dones.now ≤ 256
             → IfOk result (λ closed. (set : ℕ) (threads : List ℕ) → set < length (passes_of self.entry)
             → IsAuthored set dones.now threads → length threads ≡ length (pass_at (passes_of self.entry) set).seen
@@ -48,8 +47,7 @@ impl Session<'_> {
         ensures lives { (p : Plan) (life : List Lived) → StandsIn p life self.entry
             → IfOk result (IsClosedIn (tells_versions self.entry) (logged_of self.entry) p life) }
         ensures whole_lives { KeepsWholeLogs self.entry → (p : Plan) (life : List Lived)
-            → StandsIn p life self.entry
-            → IfOk result (IsClosedWhole (tells_versions self.entry) p life) }
+            → StandsIn p life self.entry → IfOk result (IsClosedWhole p life) }
         ensures ends { (p : Plan) (life : List Lived) → StandsIn p life self.entry → AreInOrder dones.now
             → IfOk result (TellsEndsIf (tells_versions self.entry) p.config) }
         ensures of_lives { IfOk result (λ closed. (life : List Lived)

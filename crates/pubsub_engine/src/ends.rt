@@ -176,7 +176,9 @@ pub(crate) fn reader_ends(
 {
     let mut ends = Vec::new(alloc);
     for r in 0..config.readgroup.as_slice().len() {
-        push_reader_ends(&mut ends, config, tree, publisher, subscriber, r as u8, versions)?;
+        push_reader_ends(
+            &mut ends, config, tree, publisher, subscriber, r as u8, versions,
+        )?;
     }
     Ok(ends)
 }

@@ -19,7 +19,7 @@ mod switching;
 pub use laws::{
     a_session_that_is_not_renewed_stands_behind_its_steps, each_data_frame_has_its_own_number,
 };
-pub use logs::{is_same_publisher, version_at};
+pub use logs::version_at;
 pub use opening::Opening;
 pub use session::Session;
 pub use size::{Append, Size};

@@ -7,9 +7,9 @@ ghost use Rattle.ps_report.specs.Told.{grouped_readers};
 ghost use Rattle.writer_group.specs.Parts.{group_at};
 ghost use Rattle.writer_group.specs.Standing.{IsGood};
 ghost use Rattle.session_parts.specs.Holding.{AreGroups};
-ghost use Rattle.pubsub_engine.specs.Logs.{IsLogNamed, IsLogRead, is_same_publisher, place_named, place_within};
+ghost use Rattle.pubsub_engine.specs.Logs.{IsLogNamed, IsLogRead, place_named, place_within};
 
-use ps_config::{Config, GroupPart, Publisher, ReadGroupPart, ReaderPart};
+use ps_config::{Config, GroupPart, ReadGroupPart, ReaderPart};
 use session_parts::{Publisher as Publishing, group_part};
 
 /// The log of this program's writer that the reader with this index over all read groups names, empty where the read group's
@@ -30,24 +30,10 @@ pub(crate) fn log_read<'a>(
         return &[];
     }
     match reader_part(config, reader) {
-        Some((group, part)) if is_same_publisher(&group.publisher, &config.publisher.id) => {
+        Some((group, part)) if group.publisher.is_same(&config.publisher.id) => {
             log_named(config, publisher, part.writer)
         }
         _ => &[],
-    }
-}
-
-/// Whether both are one publisher.
-pub fn is_same_publisher(one: &Publisher, other: &Publisher) -> bool
-    ensures { result ≡ is_same_publisher one.now other.now }
-{
-    match (one, other) {
-        (Publisher::U8(id), Publisher::U8(other)) => *id == *other,
-        (Publisher::U16(id), Publisher::U16(other)) => *id == *other,
-        (Publisher::U32(id), Publisher::U32(other)) => *id == *other,
-        (Publisher::U64(id), Publisher::U64(other)) => *id == *other,
-        (Publisher::Text(text), Publisher::Text(other)) => text.as_bytes() == other.as_bytes(),
-        _ => false,
     }
 }
 

@@ -1,5 +1,5 @@
 //! A session over a link: samples, ticks and pumps.
-ghost use Rattle.std.specs.Prelude.{◌≡◌, ◌≤◌, ◌<◌, ◌+◌, ◌-◌, nat_lt, ◌∷◌, ◌↔◌, IsTrue, IsSome, IfOk, IfSome, ℕ, List, Bool, true, false, count_by, length, map, slice_get, Some};
+ghost use Rattle.std.specs.Prelude.{◌≡◌, ◌≤◌, ◌<◌, ◌+◌, ◌-◌, ◌||◌, nat_lt, ◌∷◌, ◌↔◌, IsTrue, IsSome, IfOk, IfSome, ℕ, List, Bool, true, false, count_by, length, map, slice_get, Some};
 ghost use Rattle.dataset_meta.specs.declared.field.Field.{Field};
 ghost use Rattle.ua_base.specs.Journal.{Entry};
 ghost use Rattle.ua_base.specs.Links.{KeepsLink};
@@ -11,7 +11,7 @@ ghost use Rattle.session_model.specs.Steps.{Plan, Step, Append as AppendStep, Ti
 ghost use Rattle.session_model.specs.Counts.{most_taken};
 ghost use Rattle.session_model.specs.Closing.{MemberPlace, is_datagram, reader_places};
 ghost use Rattle.session_model.specs.Deeds.{logs_cut};
-ghost use Rattle.pubsub_engine.specs.Holding.{AddsOneAtMost, AreTargetsOf, ChangesSamples, ChangesStores, CountsPump, CountsTick, IsBankOf, IsRunning, IsSession, KeepsPasses, KeepsWholeLogs, MayAppendNext, MayPump, MayTick, TellsVersions, appends_left, keeper_of, left_of, logged_of, passes_of, plan_of, tells_versions};
+ghost use Rattle.pubsub_engine.specs.Holding.{AddsOneAtMost, AreTargetsOf, ChangesSamples, ChangesStores, CountsPump, CountsTick, IsBankOf, IsRunning, IsSession, KeepsPasses, KeepsWholeLogs, MayAppendNext, MayPump, MayTick, appends_left, keeper_of, left_of, logged_of, passes_of, plan_of, tells_versions};
 ghost use Rattle.session_model.specs.Lives.{Lived, Stepped, account_in, log_in};
 ghost use Rattle.pubsub_engine.specs.LifeEnds.{logs_in};
 ghost use Rattle.pubsub_engine.specs.Logs.{logs_told};
@@ -47,12 +47,13 @@ pub(crate) struct Left {
 }
 
 impl Left {
-    /// Whether each data frame of a writer has a number of its own, so that the version of a row can be told by its number: at most
-    /// 65,536 ticks may come, the closing one included.
+    /// Whether the version of a row that a reader holds is told by its number: where each data frame of a writer has one of its own,
+    /// since at most 65,536 ticks may come, the closing one included; or where the logs keep all data frames.
     pub(crate) fn tells_versions(&self) -> bool
-        ensures { result ≡ nat_lt (self.now.stores - 1) 65536 }
+        ensures { result
+            ≡ (nat_lt (self.now.stores - 1) 65536 || nat_lt (self.now.stores - 1) self.now.logged) }
     {
-        self.stores <= 65_536
+        self.stores <= 65_536 || self.stores <= u64::from(self.logged)
     }
 }
 
@@ -232,8 +233,9 @@ impl<'c> Session<'c> {
 
     /// Where a reader's last store comes from: how many stores it has, and for the last the number of its message and the version
     /// that the log of this program's writer has at it, of the data frames that the log keeps. The reader is named by its index over
-    /// all read groups. A number has 16 bits: of a session in which more than 65,536 ticks may come, the closing one included, a
-    /// number may be that of several data frames, so no version is told but that of the opening row, 0.
+    /// all read groups. A number has 16 bits: where logs are cut, of a session in which more than 65,536 ticks may come, the closing
+    /// one included, a number may be that of a data frame that the log keeps and of one that it doesn't, so no version is told but
+    /// that of the opening row, 0.
     pub fn origin(&self, reader: u8) -> Origin
         requires session { IsSession self.now }
         requires there { reader < length (readers (plan_of self.now).config) }
@@ -241,8 +243,7 @@ impl<'c> Session<'c> {
             → slice_get (reader_places p.config) reader ≡ Some place
             → let logs = logs_cut (logged_of self.now) p steps in
             IsOriginWith (logs_told (tells_versions self.now) logs) p steps place result }
-        ensures whole { KeepsWholeLogs self.now → TellsVersions self.now
-            → (p : Plan) (steps : List Step) (place : MemberPlace)
+        ensures whole { KeepsWholeLogs self.now → (p : Plan) (steps : List Step) (place : MemberPlace)
             → Stands p steps self.now → slice_get (reader_places p.config) reader ≡ Some place
             → IsOriginOf p steps place result }
         ensures lives { (p : Plan) (life : List Lived) (place : MemberPlace) → StandsIn p life self.now
@@ -252,8 +253,7 @@ impl<'c> Session<'c> {
             ((account_in p life).stores place.0 place.1) result }
         ensures whole_lives { KeepsWholeLogs self.now → (p : Plan) (life : List Lived) (place : MemberPlace)
             → StandsIn p life self.now → slice_get (reader_places p.config) reader ≡ Some place
-            → IsOriginFrom (logs_told (tells_versions self.now) (log_in p life)) p place
-            ((account_in p life).stores place.0 place.1) result }
+            → IsOriginFrom (log_in p life) p place ((account_in p life).stores place.0 place.1) result }
     {
         let versions = self.left.tells_versions();
         self.stores

@@ -117,7 +117,8 @@ impl Components {
 
     fn read_group_id(&self, read_group: u8) -> u8
         requires { read_group ≤ length self.now.readers }
-        ensures id { result ≡ first_read_group self.now + before_family self.now.readers read_group }
+        ensures id { result ≡ first_read_group self.now
+            + before_family self.now.readers read_group }
         ensures room { result + slice_index self.now.readers read_group ≤ 42 }
     {
         self.read_group_ids[usize::from(read_group)]
@@ -151,8 +152,8 @@ fn push_half(list: &mut Vec<Component>, half: Half, counts: &[u8]) -> Result<(),
 }
 
 fn push_family(list: &mut Vec<Component>, half: Half, group: u8, count: u8) -> Result<(), NoMemory>
-    ensures { OnOk result (list.new.items
-        ≡ list.old.items ++ head_of half group ∷ map (member_of half group) (range_with_len 0 count)) }
+    ensures { OnOk result (list.new.items ≡ list.old.items ++ head_of half group ∷ map
+        (member_of half group) (range_with_len 0 count)) }
 {
     list.push(half.head(group))?;
     for index in 0..count {

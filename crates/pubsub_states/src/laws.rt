@@ -15,8 +15,8 @@ ghost use Rattle.pubsub_states.specs.Changes.{Change, TreeValue, StandsAfter, Is
 pub fn states_are_those_of_the_flags()
     ensures flags { (config : Config) (changes : List Change) (tree : TreeValue)
         → IsRun config changes tree → StandsAfter config changes tree }
-    ensures states { (config : Config) (changes : List Change) (tree : TreeValue) (component : Component)
-        → IsRun config changes tree → IsAmong (counts_of config) component
+    ensures states { (config : Config) (changes : List Change) (tree : TreeValue)
+        (component : Component) → IsRun config changes tree → IsAmong (counts_of config) component
         → state_of (flags_in tree) component
         ≡ state_of (flags_after (counts_of config) changes) component }
 {}

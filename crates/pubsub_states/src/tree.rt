@@ -126,7 +126,8 @@ impl Tree {
 
     pub fn state(&self, id: u8) -> State
         requires { IsId self.now.counts id }
-        ensures { (component : Component) → slice_get (components self.now.counts) id ≡ Some component
+        ensures { (component : Component)
+            → slice_get (components self.now.counts) id ≡ Some component
             → result ≡ state_of (flags_in self.now) component }
     {
         self.state_of(self.parts.component(id))

@@ -38,7 +38,7 @@ same-publisher (publisher.U64 id) (Some (U64 other)) e = same-number U64 id othe
 same-publisher (publisher.Text text) (Some (Text other)) e = same-text text other e
 same-publisher asked carried e = absurd (cc)
 
-publisher-same : (asked : Publisher) → is_publisher asked (Some (publisher_value asked)) ≡ true
+pub publisher-same : (asked : Publisher) → is_publisher asked (Some (publisher_value asked)) ≡ true
 publisher-same (publisher.U8 id) = eq-eqb id id refl
 publisher-same (publisher.U16 id) = eq-eqb id id refl
 publisher-same (publisher.U32 id) = eq-eqb id id refl
@@ -59,6 +59,10 @@ asked-number asked carried is = on (asked == 0) refl
     on : (b : Bool) → (asked == 0) ≡ b → is_any_or asked carried ≡ true
     on true e = rw e refl
     on false e = carries asked carried (is (λ zero. absurd (let wrong : Path Bool false true = sym e ∙ eq-eqb asked 0 zero in cc))) e
+
+pub class-same : (class_id : Option (List ℕ)) → has_class class_id class_id ≡ true
+class-same None = refl
+class-same (Some id) = (bytes_eq-Decides id id).1 refl
 
 other-class : (asked carried : Option (List ℕ)) (id : List ℕ) → asked ≡ Some id → carried ≢ Some id → has_class asked carried ≡ false
 other-class None carried id is other = absurd (cc)

@@ -101,7 +101,8 @@ fn feed_at(
 
 /// The timer of each reader is looked at.
 pub(crate) fn expire_all(members: &mut [Member], now: u64)
-    ensures members { AllBecome (λ seats values. all_expired seats now values) members.old members.new }
+    ensures members { AllBecome (λ seats values. all_expired seats now values)
+        members.old members.new }
     ensures readers { KeepReaders members.old members.new }
     ensures count { length members.new ≡ length members.old }
 {

@@ -50,7 +50,8 @@ fn is_version(asked: u32, carried: Option<u32>) -> bool
     asked == 0 || carried == Some(asked)
 }
 
-fn has_class(asked: &Option<[u8; 16]>, carried: &Option<[u8; 16]>) -> bool
+/// Whether a class id is the one that is asked for, where none asks for any.
+pub fn has_class(asked: &Option<[u8; 16]>, carried: &Option<[u8; 16]>) -> bool
     ensures { result ≡ has_class asked.now carried.now }
 {
     match (asked, carried) {

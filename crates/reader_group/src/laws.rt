@@ -77,7 +77,8 @@ pub fn a_bad_part_leaves_its_reader()
 /// fixed layout for each reader what was laid at its slot, with zeros behind it.
 pub fn what_is_spelled_is_handed_on()
     ensures payload { EachHandsOn }
-    ensures messages { (header : List ℕ) (parts : List (ℕ × List ℕ)) → MessagesComeBack header parts }
+    ensures messages { (header : List ℕ) (parts : List (ℕ × List ℕ))
+        → MessagesComeBack header parts }
     ensures chunk { EachChunkComesBack }
     ensures slots { EachSlotComesBack }
 {}

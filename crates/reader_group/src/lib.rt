@@ -18,6 +18,7 @@ mod refusal;
 mod slot_frame;
 mod tally;
 
+pub use filter::has_class;
 pub use group::ReaderGroup;
 pub use laws::{
     a_bad_part_leaves_its_reader, a_group_that_is_not_renewed_has_its_plain_reading,

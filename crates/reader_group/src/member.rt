@@ -72,7 +72,8 @@ impl Member {
 
     /// A cut where the timer has run out.
     pub fn expire(&mut self, now: u64)
-        ensures member { Becomes (λ seat value. expired seat.part.timeout now value) self.old self.new }
+        ensures member { Becomes (λ seat value. expired seat.part.timeout now value)
+            self.old self.new }
         ensures reader { (meta : MetaData) → HoldsRowsOf meta self.old → HoldsRowsOf meta self.new }
     {
         if self.timer.due(now) {

@@ -34,7 +34,8 @@ pub(crate) fn open(
 ) -> Result<Begun, Refusal>
     ensures verdict { OpensBy group.now guard.now bytes.old result room.new bytes.new }
     ensures bytes { LeavesBytes group.now guard.now bytes.old bytes.new }
-    ensures messages { IfOk result (λ begun. HasMessages group.now.layout begun room.new bytes.new) }
+    ensures messages { IfOk result
+        (λ begun. HasMessages group.now.layout begun room.new bytes.new) }
     ensures pass { IfOk result (λ begun. IsPassOf guard.now begun.pass) }
     ensures within { IfOk result (λ begun. begun.pass.end ≤ length bytes.new) }
 {

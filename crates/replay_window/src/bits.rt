@@ -12,7 +12,8 @@ pub(crate) fn is_marked(words: &[u64; 16], number: u32) -> bool
 
 pub(crate) fn mark(words: &mut [u64; 16], number: u32)
     ensures marked { is_marked words.new number ≡ true }
-    ensures others { (x : ℕ) → x % 1024 ≢ number % 1024 → is_marked words.new x ≡ is_marked words.old x }
+    ensures others { (x : ℕ) → x % 1024 ≢ number % 1024
+        → is_marked words.new x ≡ is_marked words.old x }
 {
     words[(number / 64 % 16) as usize] |= 1 << (number % 64);
 }
@@ -33,7 +34,8 @@ fn without(word: u64, low: u32, high: u32) -> u64
 pub(crate) fn clear(words: &mut [u64; 16], first: u32, last: u32)
     requires { first ≤ last }
     ensures cleared { (x : ℕ) → first ≤ x → x ≤ last → is_marked words.new x ≡ false }
-    ensures kept { (x : ℕ) → x < first → last < x + 1024 → is_marked words.new x ≡ is_marked words.old x }
+    ensures kept { (x : ℕ) → x < first → last < x + 1024
+        → is_marked words.new x ≡ is_marked words.old x }
 {
     let start = first / 64;
     let end = last / 64;

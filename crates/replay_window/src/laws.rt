@@ -6,7 +6,8 @@ ghost use Rattle.replay_window.specs.declared.seen.Seen.TheVariants.{Fresh};
 
 /// A number that was taken is never fresh again.
 pub fn taken_numbers_are_never_fresh_again()
-    ensures { (taken : List ℕ) (number : ℕ) → Contains taken number → ¬ (seen taken number ≡ Fresh) }
+    ensures { (taken : List ℕ) (number : ℕ) → Contains taken number
+        → ¬ (seen taken number ≡ Fresh) }
 {}
 
 /// A number is fresh exactly where it wasn't taken and is less than 1,024 below the greatest that was.

@@ -61,7 +61,8 @@ impl Window {
 fn advance(words: &mut [u64; 16], high: u32, to: u32)
     requires { high < to }
     ensures cleared { (x : ℕ) → high < x → x < to → to < x + 1024 → is_marked words.new x ≡ false }
-    ensures kept { (x : ℕ) → x ≤ high → to < x + 1024 → is_marked words.new x ≡ is_marked words.old x }
+    ensures kept { (x : ℕ) → x ≤ high → to < x + 1024
+        → is_marked words.new x ≡ is_marked words.old x }
 {
     if to - high >= 1024 {
         *words = [0; 16];

@@ -17,8 +17,8 @@ use ps_report::a_report_reads_so;
 /// Two closed sessions of one configuration that have the same report are told alike: its histories, states, counts, logs, rows that
 /// are held with their numbers and versions, reasons, breaks, looks and counts of the link are those of both.
 pub fn a_report_tells_one_session()
-    ensures { (config : Config) (one other : Closed) → NamesReaders config → HasNumbers one → HasNumbers other
-        → IsClosedOf config one → IsClosedOf config other
+    ensures { (config : Config) (one other : Closed) → NamesReaders config → HasNumbers one
+        → HasNumbers other → IsClosedOf config one → IsClosedOf config other
         → report_text config one ≡ report_text config other → AreToldAlike one other }
 {}
 

@@ -40,7 +40,7 @@ impl Patch {
         ensures of { IsPatchOf meta.now result }
         ensures empty { patch_in meta.now.fields result ≡ [] }
     {
-        let _ = meta.fields();
+        let _fields = meta.fields();
         Patch::empty()
     }
 
@@ -48,7 +48,8 @@ impl Patch {
     pub fn put(&mut self, meta: &Meta, index: u8, value: &Value, status: u32)
         requires of { IsPatchOf meta.now self.old }
         requires index { index < length meta.now.fields }
-        requires fits { HoldsAt (λ field. Fits value.now field.kind field.cap) meta.now.fields index }
+        requires fits { HoldsAt (λ field. Fits value.now field.kind field.cap)
+            meta.now.fields index }
         requires status { IsStatus meta.now.quality status }
         ensures of { IsPatchOf meta.now self.new }
         ensures put { patch_in meta.now.fields self.new

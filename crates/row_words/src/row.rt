@@ -47,7 +47,7 @@ impl Row {
         ensures belongs { Belongs meta.now result.words }
         ensures row { row_in meta.now.fields result.words ≡ opening_row meta.now.fields }
     {
-        let _ = meta.fields();
+        let _fields = meta.fields();
         Row::opening()
     }
 
@@ -69,7 +69,8 @@ impl Row {
     pub fn set(&mut self, meta: &Meta, index: u8, value: &Value)
         requires belongs { Belongs meta.now self.old.words }
         requires index { index < length meta.now.fields }
-        requires fits { HoldsAt (λ field. Fits value.now field.kind field.cap) meta.now.fields index }
+        requires fits { HoldsAt (λ field. Fits value.now field.kind field.cap)
+            meta.now.fields index }
         ensures belongs { Belongs meta.now self.new.words }
         ensures set { row_in meta.now.fields self.new.words
             ≡ with_value (row_in meta.now.fields self.old.words) index value.now }
@@ -110,7 +111,8 @@ impl Row {
     pub fn set_with_status(&mut self, meta: &Meta, index: u8, value: &Value, status: u32)
         requires belongs { Belongs meta.now self.old.words }
         requires index { index < length meta.now.fields }
-        requires fits { HoldsAt (λ field. Fits value.now field.kind field.cap) meta.now.fields index }
+        requires fits { HoldsAt (λ field. Fits value.now field.kind field.cap)
+            meta.now.fields index }
         requires status { IsStatus meta.now.quality status }
         ensures belongs { Belongs meta.now self.new.words }
         ensures set { row_in meta.now.fields self.new.words

@@ -3,7 +3,7 @@ use crate::banks::BankCase;
 use crate::cells::CellCase;
 use crate::fields::DataSets;
 use crate::targets::TargetsCase;
-use case_lines::{Answer, Line, LineFault};
+use case_lines::{Answer, Answers, Line, LineFault};
 use std::alloc::Global;
 use std::sync::Wait;
 
@@ -17,18 +17,8 @@ pub struct Bench {
     targets: Option<TargetsCase>,
 }
 
-impl Bench {
-    pub fn new(alloc: Global) -> Bench {
-        Bench {
-            alloc,
-            sets: DataSets::new(alloc),
-            cell: None,
-            bank: None,
-            targets: None,
-        }
-    }
-
-    pub fn answer<R: Wait>(&mut self, rt: &R, line: &mut Line) -> Answer {
+impl<R: Wait> Answers<R> for Bench {
+    fn answer(&mut self, rt: &R, line: &mut Line<'_>) -> Answer {
         match line.word()? {
             "data" => {
                 self.sets.push(self.alloc, line)?;
@@ -38,6 +28,18 @@ impl Bench {
             "bank" => self.bank(rt, line),
             "targets" => self.targets(rt, line),
             _ => Err(LineFault::Call),
+        }
+    }
+}
+
+impl Bench {
+    pub fn new(alloc: Global) -> Bench {
+        Bench {
+            alloc,
+            sets: DataSets::new(alloc),
+            cell: None,
+            bank: None,
+            targets: None,
         }
     }
 

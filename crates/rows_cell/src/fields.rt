@@ -89,7 +89,7 @@ fn name_of(word: &str) -> Result<Name32, LineFault> {
 pub fn patch_of(meta: &Meta, line: &Line) -> Result<Patch, LineFault>
     ensures { IfOk result (IsPatchOf meta.now) }
 {
-    let _ = meta.fields();
+    let _fields = meta.fields();
     let mut patch = Patch::empty();
     for word in line.words() {
         put(meta, &mut patch, word)?;
@@ -121,7 +121,7 @@ pub fn row_of(meta: &Meta, line: &Line) -> Result<Row, LineFault>
     ensures { IfOk result (λ row. Belongs meta.now row.words) }
 {
     let patch = patch_of(meta, line)?;
-    let _ = meta.fields();
+    let _fields = meta.fields();
     let mut row = Row::opening();
     patch.lay(meta, &mut row);
     Ok(row)

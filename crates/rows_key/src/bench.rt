@@ -2,7 +2,7 @@
 use crate::answers::{get, pull, reply};
 use crate::rings::ring_of;
 use crate::wire::{pull_reply, read_reply_row, read_request_row, request};
-use case_lines::{Answer, Line, LineFault, refused, said};
+use case_lines::{Answer, Answers, Line, LineFault, refused, said};
 use dataset_meta::Name32;
 use key_service::Service;
 use std::alloc::Global;
@@ -14,15 +14,8 @@ pub struct Bench {
     service: Option<Service>,
 }
 
-impl Bench {
-    pub fn new(alloc: Global) -> Bench {
-        Bench {
-            alloc,
-            service: None,
-        }
-    }
-
-    pub fn answer(&mut self, line: &mut Line) -> Answer {
+impl<R> Answers<R> for Bench {
+    fn answer(&mut self, _rt: &R, line: &mut Line<'_>) -> Answer {
         match line.word()? {
             "serve" => self.serve(line),
             "request" => request(self.alloc, line),
@@ -30,6 +23,15 @@ impl Bench {
             "read_reply" => read_reply_row(self.alloc, line),
             "pull_reply" => pull_reply(self.alloc, line),
             call => self.call(call, line),
+        }
+    }
+}
+
+impl Bench {
+    pub fn new(alloc: Global) -> Bench {
+        Bench {
+            alloc,
+            service: None,
         }
     }
 

@@ -1,7 +1,7 @@
 //! The calls by their names, and what is kept from line to line.
 use crate::scripts::work;
 use crate::{configs, reports, scripts, states, values};
-use case_lines::{Answer, Line, LineFault, config_of};
+use case_lines::{Answer, Answers, Line, LineFault, config_of};
 use std::alloc::{AllocError, Global};
 
 /// The document of the configuration.
@@ -18,8 +18,11 @@ impl Bench {
             document: String::from_str(alloc, "built_in")?,
         })
     }
+}
 
-    pub fn answer(&mut self, text: &str) -> Answer {
+impl<R> Answers<R> for Bench {
+    fn answer(&mut self, _rt: &R, line: &mut Line<'_>) -> Answer {
+        let text = line.rest();
         let mut line = Line::new(text);
         let call = line.word()?;
         if call == "with" {

@@ -8,7 +8,7 @@ use crate::row_calls::RowCalls;
 use crate::timers::TimerRows;
 use crate::windows::WindowRows;
 use crate::{frames, headers, metas, numbers, payloads, security, slots, values};
-use case_lines::{Answer, LineFault, Numbers, Tally, told};
+use case_lines::{Answer, Answers, Line, LineFault, Numbers, Tally, told};
 use std::alloc::Global;
 
 /// What is kept from line to line: the machines that the calls speak of.
@@ -22,6 +22,18 @@ pub struct Bench {
     rows: RowCalls,
 }
 
+impl<R> Answers<R> for Bench {
+    fn answer(&mut self, _rt: &R, line: &mut Line<'_>) -> Answer {
+        let mut line = CaseLine::new(line.rest());
+        let answer = match line.word() {
+            "random" => self.random(&mut line),
+            "random_chunks" => self.random_chunks(&mut line),
+            call => self.call(call, &mut line),
+        };
+        line.checked(answer)
+    }
+}
+
 impl Bench {
     pub fn new(alloc: Global) -> Bench {
         Bench {
@@ -32,16 +44,6 @@ impl Bench {
             guards: GuardRows::new(),
             rows: RowCalls::new(),
         }
-    }
-
-    pub fn answer(&mut self, line: &str) -> Answer {
-        let mut line = CaseLine::new(line);
-        let answer = match line.word() {
-            "random" => self.random(&mut line),
-            "random_chunks" => self.random_chunks(&mut line),
-            call => self.call(call, &mut line),
-        };
-        line.checked(answer)
     }
 
     /// `random SEED COUNT LONGEST CALL ..`: the answers to so many lines, each the words of the call and at most so many

@@ -26,7 +26,8 @@ impl Put {
     pub fn is_of(&self, meta: &Meta) -> bool
         ensures index { result ≡ true → self.now.index < length meta.now.fields }
         ensures fits { result ≡ true
-            → HoldsAt (λ field. Fits self.now.value field.kind field.cap) meta.now.fields self.now.index }
+            → HoldsAt (λ field. Fits self.now.value field.kind field.cap)
+            meta.now.fields self.now.index }
         ensures status { result ≡ true → IsStatus meta.now.quality self.now.status }
     {
         let fields = meta.fields();
@@ -172,7 +173,7 @@ pub fn changes_of(alloc: Global, line: &mut Line) -> Result<(Case, Vec<Put>), Li
 pub fn patch_of(meta: &Meta, puts: &[Put]) -> Result<Patch, LineFault>
     ensures { IfOk result (IsPatchOf meta.now) }
 {
-    let _ = meta.fields();
+    let _fields = meta.fields();
     let mut patch = Patch::empty();
     put_all(meta, &mut patch, puts)?;
     Ok(patch)

@@ -29,24 +29,10 @@ mod windows;
 mod writers;
 
 use bench::Bench;
-use case_lines::{AnsweredLine, is_note};
+use case_lines::answer_lines;
 use std::io;
 
 fn main(rt: HostRuntime) -> io::Result<()> {
     let mut bench = Bench::new(rt.alloc());
-    for line in rt.lines(rt.alloc()) {
-        let line = line?;
-        let text = line.as_str();
-        let answer = if is_note(text) {
-            Ok(None)
-        } else {
-            bench.answer(text)
-        };
-        let told = AnsweredLine {
-            line: text,
-            answer: &answer,
-        };
-        println!(rt; "{told}")?;
-    }
-    Ok(())
+    answer_lines(&rt, rt.alloc(), &mut bench)
 }

@@ -26,10 +26,12 @@ pub fn numbers_give_places()
 
 /// The place that a number stands for has that number.
 pub fn places_give_numbers()
-    ensures { (first number : ℕ) → number < 2 ^ 16 → number_of_place (place_from first number) ≡ number }
+    ensures { (first number : ℕ) → number < 2 ^ 16
+        → number_of_place (place_from first number) ≡ number }
 {}
 
 /// The number one before the next place's is that of the place before.
 pub fn silent_number_is_before()
-    ensures { (next : ℕ) → 1 ≤ next → (number_of_place next + 65535) % 65536 ≡ number_of_place (next - 1) }
+    ensures { (next : ℕ) → 1 ≤ next → (number_of_place next + 65535) % 65536
+        ≡ number_of_place (next - 1) }
 {}

@@ -1,12 +1,13 @@
 -- The datagrams of a session that one key group protects, in order, and the turns of a writer with their tokens.
-use Rattle.std.specs.Prelude.{◌≡◌, ◌≢◌, ⊤, ℕ, List, [], ◌∷◌, ◌++◌, All, Bool, true, false, ◌==◌, if◌then◌else◌, Option, None, option_map}
+use Rattle.std.specs.Prelude.{◌≡◌, ◌≢◌, ⊤, ℕ, List, [], ◌∷◌, ◌++◌, All, Bool, true, false, ◌==◌, if◌then◌else◌, Option, None, Some, option_map}
 use Rattle.std.specs.List.{cons_option}
-use Rattle.pubsub_model.specs.Cadence.{Answered, WriterTurn, is_key}
+use Rattle.pubsub_model.specs.Cadence.{Answered, WriterTurn, cadence, is_key, next_place}
+use Rattle.pubsub_model.specs.Frames.{Whole}
 use Rattle.ps_config.specs.declared.parts.Config.{Config}
 use Rattle.session_model.specs.Steps.{Plan, Step}
 use Rattle.session_model.specs.Deeds.{Deed, RefreshedBelow, RefreshedSet, CameTo, TookTurn, RenewedKeys, deeds, group_past, sender_after, shares}
 use Rattle.writer_group.specs.Parts.{group_at}
-use Rattle.writer_group.specs.Turns.{GroupTurn, took_by, writer_past}
+use Rattle.writer_group.specs.Turns.{GroupDeed, GroupTurn, answer_of, took_by, writer_past}
 use Rattle.session_laws.specs.Headline.{answered_turn}
 use Rattle.session_laws.specs.Pasts.{settings_at}
 
@@ -62,3 +63,9 @@ abbrev pub BeginWithKeys : List KeyedTurn → Type 0
 BeginWithKeys [] = ⊤
 BeginWithKeys (turn ∷ before) =
     (All (λ earlier. earlier.token ≢ turn.token) before → is_key turn.answered ≡ true) × BeginWithKeys before
+
+-- the turn of the writer w of the group g, behind this past of the group, is answered by its row whole, at the writer's next place
+abbrev pub IsAnsweredWhole : Config → List GroupDeed → ℕ → ℕ → WriterTurn → Type 0
+IsAnsweredWhole config past g w turn =
+    let s = settings_at (group_at config g) w in
+    answer_of (group_at config g) past w turn ≡ Some (Whole (next_place s (cadence s (writer_past w past))) turn.row)

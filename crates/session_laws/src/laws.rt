@@ -5,9 +5,8 @@ ghost use Rattle.dataset_meta.specs.DataValues.{DataValue};
 ghost use Rattle.ua_base.specs.Journal.{Entry};
 ghost use Rattle.message_guard.specs.Senders.{HaveOtherNumbers};
 ghost use Rattle.pubsub_model.specs.Cadence.{WriterDeed, WriterTurn, HadTurn, cadence, is_data, next_place};
-ghost use Rattle.pubsub_model.specs.Frames.{Whole};
 ghost use Rattle.writer_group.specs.declared.sampled.Sampled.{Sampled};
-ghost use Rattle.writer_group.specs.Turns.{GroupDeed, GroupTurn, answer_of, writer_past};
+ghost use Rattle.writer_group.specs.Turns.{GroupDeed, GroupTurn};
 ghost use Rattle.writer_group.specs.Payloads.{writer_at};
 ghost use Rattle.pubsub_states.specs.declared.component.Component.{Component};
 ghost use Rattle.reader_group.specs.Agreeing.{MemberIs};
@@ -28,7 +27,7 @@ ghost use Rattle.session_model.specs.Turns.{deeds_before};
 ghost use Rattle.session_laws.specs.Bare.{ClosingCameLast, ClosingGotLast, ClosingGotSinceLast, ClosingTookLast};
 ghost use Rattle.session_laws.specs.Below.{Laws};
 ghost use Rattle.session_laws.specs.Courses.{HaveOneCourse};
-ghost use Rattle.session_laws.specs.Fresh.{BeginWithKeys, keyed_turns, protected_by};
+ghost use Rattle.session_laws.specs.Fresh.{BeginWithKeys, IsAnsweredWhole, keyed_turns, protected_by};
 ghost use Rattle.session_laws.specs.Headline.{InSession, ComesFrom, IsPublished, PublishesVersion, answered_turn};
 ghost use Rattle.session_laws.specs.Newest.{BringsLast, ClosingCame, ClosingGot, ClosingGotSecured, ClosingTook, HoldsClosing, HoldsClosingRow, HoldsNewest, IsLastLogged, IsNewest};
 ghost use Rattle.session_laws.specs.Pasts.{settings_at};
@@ -56,9 +55,10 @@ use writer_group::{
 /// items; and a row that it holds is that of the turn whose version the writer's log has at the held number.
 pub fn a_matched_reader_holds_what_was_sent()
     ensures comes { (most : ℕ) (p : Play) → most ≤ 65536 → IsPlay most p → ComesFromWriter p }
-    ensures keeps { (p : Play) → IsPlay 16385 p → MemberIs (its_way p) (its_marks p) (its_member p) }
-    ensures holds { (p : Play) (row : List DataValue) → IsPlay 16385 p → (its_member p).kept.row ≡ Some row
-        → HoldsVersion p (its_member p).kept.number row }
+    ensures keeps { (p : Play) → IsPlay 16385 p
+        → MemberIs (its_way p) (its_marks p) (its_member p) }
+    ensures holds { (p : Play) (row : List DataValue) → IsPlay 16385 p
+        → (its_member p).kept.row ≡ Some row → HoldsVersion p (its_member p).kept.number row }
 {
     what_the_laws_below_say();
 }
@@ -68,11 +68,13 @@ pub fn a_matched_reader_holds_what_was_sent()
 /// has at the held number, cut to the reader's fields, which is that of the writer's turn whose data frame has this place, cut
 /// so.
 pub fn matched_readers_hold_published_versions()
-    ensures comes { (p : Plan) (r i g w : ℕ) (steps : List Step) → InSession p r i g w steps → ComesFrom p r i g w steps }
+    ensures comes { (p : Plan) (r i g w : ℕ) (steps : List Step) → InSession p r i g w steps
+        → ComesFrom p r i g w steps }
     ensures reads { (p : Plan) (r i g w : ℕ) (steps : List Step) → InSession p r i g w steps
         → ReadsByRecords p.config r i (first_number_of p.config g w) steps }
-    ensures holds { (p : Plan) (r i g w : ℕ) (steps : List Step) (rows : ℕ → ℕ → List DataValue) (row : List DataValue)
-        → InSession p r i g w steps → AreVersions p steps rows → (reader_at p.config r i steps).kept.row ≡ Some row
+    ensures holds { (p : Plan) (r i g w : ℕ) (steps : List Step) (rows : ℕ → ℕ → List DataValue)
+        (row : List DataValue) → InSession p r i g w steps → AreVersions p steps rows
+        → (reader_at p.config r i steps).kept.row ≡ Some row
         → IsPublished p r i g w steps rows (reader_at p.config r i steps).kept.number row }
 {
     what_the_laws_below_say();
@@ -83,14 +85,16 @@ pub fn matched_readers_hold_published_versions()
 /// data set had then, and the versions of its log never fall, where those that are sampled of a data set don't; however many ticks
 /// come.
 pub fn data_messages_stand_for_versions()
-    ensures publish { (limit : ℕ) (p : Plan) (g w : ℕ) (steps : List Step) (rows : ℕ → ℕ → List DataValue)
-        (later before : List WriterDeed) (turn : WriterTurn) → IsPlan p → AreStepsOf limit p steps
-        → SamplesRise p steps → AreVersions p steps rows → w < length (group_at p.config g).writer
+    ensures publish { (limit : ℕ) (p : Plan) (g w : ℕ) (steps : List Step)
+        (rows : ℕ → ℕ → List DataValue) (later before : List WriterDeed) (turn : WriterTurn)
+        → IsPlan p → AreStepsOf limit p steps → SamplesRise p steps → AreVersions p steps rows
+        → w < length (group_at p.config g).writer
         → writer_deeds p g w steps ≡ later ++ HadTurn turn ∷ before
-        → let part = writer_at (group_at p.config g) w in let s = settings_at (group_at p.config g) w in
-        is_data (answered_turn s before turn) ≡ true → PublishesVersion p steps s part.dataset rows before turn }
-    ensures never_older { (limit : ℕ) (p : Plan) (g w : ℕ) (steps : List Step) → IsPlan p → AreStepsOf limit p steps
-        → SamplesRise p steps → w < length (group_at p.config g).writer
+        → let part = writer_at (group_at p.config g) w in
+        let s = settings_at (group_at p.config g) w in is_data (answered_turn s before turn) ≡ true
+        → PublishesVersion p steps s part.dataset rows before turn }
+    ensures never_older { (limit : ℕ) (p : Plan) (g w : ℕ) (steps : List Step) → IsPlan p
+        → AreStepsOf limit p steps → SamplesRise p steps → w < length (group_at p.config g).writer
         → IsNonDecreasingBy (λ entry. entry.1) (log_at p g w steps) }
 {
     cut_rows_have_words();
@@ -103,8 +107,8 @@ pub fn data_messages_stand_for_versions()
 /// cut to the reader's fields, at the number of that place. A closing turn is answered by a key frame, whose place and version
 /// are the last in the writer's log.
 pub fn a_key_frame_that_comes_last_is_held()
-    ensures held { (p : Plan) (r i : ℕ) (before : List Step) (entries : List Entry) (row : List DataValue)
-        → BringsLast p r i before entries row
+    ensures held { (p : Plan) (r i : ℕ) (before : List Step) (entries : List Entry)
+        (row : List DataValue) → BringsLast p r i before entries row
         → (reader_at p.config r i (Pump entries ∷ before)).kept.row ≡ Some row }
     ensures newest { (p : Plan) (r i g w : ℕ) (before : List Step) (entries : List Entry)
         (rows : ℕ → ℕ → List DataValue) (row : List DataValue) (version : ℕ)
@@ -112,8 +116,8 @@ pub fn a_key_frame_that_comes_last_is_held()
         → (last : BringsLast p r i before entries row)
         → IsNewest p r i g w before entries last.brings.frame.number version
         → HoldsNewest p r i g w (Pump entries ∷ before) rows version }
-    ensures closing { (p : Plan) (g w : ℕ) (steps : List Step) (before : List WriterDeed) (turn : WriterTurn)
-        → writer_deeds p g w steps ≡ HadTurn turn ∷ before → turn.closing ≡ true
+    ensures closing { (p : Plan) (g w : ℕ) (steps : List Step) (before : List WriterDeed)
+        (turn : WriterTurn) → writer_deeds p g w steps ≡ HadTurn turn ∷ before → turn.closing ≡ true
         → let s = settings_at (group_at p.config g) w in
         IsLastLogged p g w steps (next_place s (cadence s before)) turn.version }
 {
@@ -144,30 +148,36 @@ pub fn a_closing_frame_that_came_is_held()
         (before : List GroupDeed) (turn : GroupTurn) (own : WriterTurn) → InSession p r i g w steps
         → AreVersions p steps rows → ClosingGot p r i g w steps before turn own
         → HoldsClosing p r i g w steps rows own.version }
-    ensures secured { (p : Plan) (r i g w : ℕ) (steps : List Step) (rows : ℕ → ℕ → List DataValue) (own : WriterTurn)
-        → InSession p r i g w steps → AreVersions p steps rows → ClosingGotSecured p r i g w steps own
-        → HoldsClosing p r i g w steps rows own.version }
-    ensures taken { (p : Plan) (r i g w : ℕ) (steps : List Step) (rows : ℕ → ℕ → List DataValue) (own : WriterTurn)
-        → InSession p r i g w steps → AreVersions p steps rows → ClosingTook p r i g w steps own
-        → HoldsClosing p r i g w steps rows own.version }
+    ensures secured { (p : Plan) (r i g w : ℕ) (steps : List Step) (rows : ℕ → ℕ → List DataValue)
+        (own : WriterTurn) → InSession p r i g w steps → AreVersions p steps rows
+        → ClosingGotSecured p r i g w steps own → HoldsClosing p r i g w steps rows own.version }
+    ensures taken { (p : Plan) (r i g w : ℕ) (steps : List Step) (rows : ℕ → ℕ → List DataValue)
+        (own : WriterTurn) → InSession p r i g w steps → AreVersions p steps rows
+        → ClosingTook p r i g w steps own → HoldsClosing p r i g w steps rows own.version }
     ensures came { (p : Plan) (r i g w : ℕ) (steps : List Step) (rows : ℕ → ℕ → List DataValue)
-        (before : List WriterDeed) (turn : WriterTurn) → InSession p r i g w steps → AreVersions p steps rows
-        → ClosingCame p r i g w steps before turn → HoldsClosing p r i g w steps rows turn.version }
-    ensures received_last { (p : Plan) (r i g w : ℕ) (steps : List Step) (rows : ℕ → ℕ → List DataValue)
-        (before : List GroupDeed) (turn : GroupTurn) (own : WriterTurn) → InSession p r i g w steps
-        → AreVersions p steps rows → ClosingGotLast p r i g w steps before turn own
+        (before : List WriterDeed) (turn : WriterTurn) → InSession p r i g w steps
+        → AreVersions p steps rows → ClosingCame p r i g w steps before turn
+        → HoldsClosing p r i g w steps rows turn.version }
+    ensures received_last { (p : Plan) (r i g w : ℕ) (steps : List Step)
+        (rows : ℕ → ℕ → List DataValue) (before : List GroupDeed) (turn : GroupTurn)
+        (own : WriterTurn) → InSession p r i g w steps → AreVersions p steps rows
+        → ClosingGotLast p r i g w steps before turn own
         → HoldsClosingRow p r i g w steps rows own.version }
-    ensures since_last { (p : Plan) (r i g w : ℕ) (steps : List Step) (rows : ℕ → ℕ → List DataValue)
-        (own : WriterTurn) → InSession p r i g w steps → AreVersions p steps rows
-        → ClosingGotSinceLast p r i g w steps own → HoldsClosingRow p r i g w steps rows own.version }
-    ensures taken_last { (p : Plan) (r i g w : ℕ) (steps : List Step) (rows : ℕ → ℕ → List DataValue)
-        (own : WriterTurn) → InSession p r i g w steps → AreVersions p steps rows
-        → ClosingTookLast p r i g w steps own → HoldsClosingRow p r i g w steps rows own.version }
+    ensures since_last { (p : Plan) (r i g w : ℕ) (steps : List Step)
+        (rows : ℕ → ℕ → List DataValue) (own : WriterTurn) → InSession p r i g w steps
+        → AreVersions p steps rows → ClosingGotSinceLast p r i g w steps own
+        → HoldsClosingRow p r i g w steps rows own.version }
+    ensures taken_last { (p : Plan) (r i g w : ℕ) (steps : List Step)
+        (rows : ℕ → ℕ → List DataValue) (own : WriterTurn) → InSession p r i g w steps
+        → AreVersions p steps rows → ClosingTookLast p r i g w steps own
+        → HoldsClosingRow p r i g w steps rows own.version }
     ensures came_last { (p : Plan) (r i g w : ℕ) (steps : List Step) (rows : ℕ → ℕ → List DataValue)
-        (before : List WriterDeed) (turn : WriterTurn) → InSession p r i g w steps → AreVersions p steps rows
-        → ClosingCameLast p r i g w steps before turn → HoldsClosingRow p r i g w steps rows turn.version }
-    ensures sampled { (limit : ℕ) (p : Plan) (g w : ℕ) (steps : List Step) (later before : List WriterDeed) (turn : WriterTurn)
-        → IsPlan p → AreStepsOf limit p steps → g < length p.config.group → w < length (group_at p.config g).writer
+        (before : List WriterDeed) (turn : WriterTurn) → InSession p r i g w steps
+        → AreVersions p steps rows → ClosingCameLast p r i g w steps before turn
+        → HoldsClosingRow p r i g w steps rows turn.version }
+    ensures sampled { (limit : ℕ) (p : Plan) (g w : ℕ) (steps : List Step)
+        (later before : List WriterDeed) (turn : WriterTurn) → IsPlan p → AreStepsOf limit p steps
+        → g < length p.config.group → w < length (group_at p.config g).writer
         → writer_deeds p g w steps ≡ later ++ HadTurn turn ∷ before → turn.closing ≡ true
         → ClosesWith steps (writer_at (group_at p.config g) w).dataset turn.version }
 {
@@ -183,8 +193,9 @@ pub fn a_session_has_at_most_4097_ticks()
 
 /// No two datagrams of a session that one key group protects have the same token and number, over any link, however long it lasts.
 pub fn no_token_and_number_come_twice_in_a_session()
-    ensures { (limit : ℕ) (p : Plan) (k : ℕ) (steps : List Step) → IsPlan p → AreStepsOf limit p steps
-        → k < length p.config.keygroup → AllPairs HaveOtherNumbers (protected_by p k steps) }
+    ensures { (limit : ℕ) (p : Plan) (k : ℕ) (steps : List Step) → IsPlan p
+        → AreStepsOf limit p steps → k < length p.config.keygroup
+        → AllPairs HaveOtherNumbers (protected_by p k steps) }
 {
     no_token_and_number_come_twice_in_groups();
     each_turn_of_a_session_holds();
@@ -193,17 +204,18 @@ pub fn no_token_and_number_come_twice_in_a_session()
 /// Under each new token a writer's first frame is a key frame: at whichever tick the writer first has a turn under it, which
 /// is one that changes the token of its group's key group or a later one.
 pub fn a_new_token_begins_with_key_frames()
-    ensures first { (p : Plan) (k g w : ℕ) (steps : List Step) → (group_at p.config g).keygroup ≡ Some k
-        → w < length (group_at p.config g).writer → BeginWithKeys (keyed_turns p.config k g w (deeds p steps)) }
+    ensures first { (p : Plan) (k g w : ℕ) (steps : List Step)
+        → (group_at p.config g).keygroup ≡ Some k → w < length (group_at p.config g).writer
+        → BeginWithKeys (keyed_turns p.config k g w (deeds p steps)) }
     ensures turns { (p : Plan) (k g w : ℕ) (steps : List Step)
-        → map (λ turn. turn.answered) (keyed_turns p.config k g w (deeds p steps)) ≡ answered_at p g w steps }
-    ensures at_once { (p : Plan) (before : List Step) (now : ℕ) (closing : Bool) (samples : List Sampled) (g w : ℕ) (turn : WriterTurn)
-        → g < length p.config.group → w < length (group_at p.config g).writer
+        → map (λ turn. turn.answered) (keyed_turns p.config k g w (deeds p steps))
+        ≡ answered_at p g w steps }
+    ensures at_once { (p : Plan) (before : List Step) (now : ℕ) (closing : Bool)
+        (samples : List Sampled) (g w : ℕ) (turn : WriterTurn) → g < length p.config.group
+        → w < length (group_at p.config g).writer
         → is_rekeyed p.config now (deeds p before) g ≡ true
         → let past = group_past p.config g (deeds_before p before now closing samples g) in
-        let s = settings_at (group_at p.config g) w in
-        answer_of (group_at p.config g) past w turn
-        ≡ Some (Whole (next_place s (cadence s (writer_past w past))) turn.row) }
+        IsAnsweredWhole p.config past g w turn }
 {
     a_refreshed_writer_sends_a_key_frame();
 }
@@ -215,16 +227,19 @@ pub fn a_new_token_begins_with_key_frames()
 /// second course has further datagrams alone and no pump ends at its limit, the count of received datagrams. Where a journal is
 /// another one with further receives, and no pump of either ends at its limit, both are divided into the same sends and pumps.
 pub fn refused_datagrams_leave_no_trace_in_a_session()
-    ensures groups { (p : Plan) (twins : List TwinStep) → deeds p (firsts twins) ≡ deeds p (seconds twins) }
+    ensures groups { (p : Plan) (twins : List TwinStep)
+        → deeds p (firsts twins) ≡ deeds p (seconds twins) }
     ensures further { (p : Plan) (twins : List TwinStep) → AddRefused p twins → AreTwins p twins }
     ensures readers { (p : Plan) (twins : List TwinStep) → AreTwins p twins → (r i : ℕ)
         → reader_at p.config r i (firsts twins) ≡ reader_at p.config r i (seconds twins) }
     ensures stores { (p : Plan) (twins : List TwinStep) → AreTwins p twins → (r i : ℕ)
         → stores p.config r i (firsts twins) ≡ stores p.config r i (seconds twins) }
     ensures answers { (p : Plan) (twins : List TwinStep) → AreTwins p twins → (r : ℕ)
-        → filter is_ok (answers_at p.config r (firsts twins)) ≡ filter is_ok (answers_at p.config r (seconds twins)) }
+        → filter is_ok (answers_at p.config r (firsts twins))
+        ≡ filter is_ok (answers_at p.config r (seconds twins)) }
     ensures taken { (p : Plan) (twins : List TwinStep) → AreTwins p twins → (r : ℕ)
-        → taken_by (answers_at p.config r (firsts twins)) ≡ taken_by (answers_at p.config r (seconds twins)) }
+        → taken_by (answers_at p.config r (firsts twins))
+        ≡ taken_by (answers_at p.config r (seconds twins)) }
     ensures states { (p : Plan) (twins : List TwinStep) → AreTwins p twins → (component : Component)
         → state_at p (firsts twins) component ≡ state_at p (seconds twins) component }
     ensures sends { (p : Plan) (twins : List TwinStep) (g : ℕ)
@@ -236,10 +251,12 @@ pub fn refused_datagrams_leave_no_trace_in_a_session()
         → let end = read_group_end p (seconds twins) r in
         end ≡ record (read_group_end p (firsts twins) r) { causes = end.causes } }
     ensures received { (p : Plan) (twins : List TwinStep) → HaveFurther twins
-        → limits (firsts twins) ≡ 0 → limits (seconds twins) ≡ 0 → let end = link_end p (seconds twins) in
+        → limits (firsts twins) ≡ 0 → limits (seconds twins) ≡ 0
+        → let end = link_end p (seconds twins) in
         end ≡ record (link_end p (firsts twins)) { received = end.received } }
-    ensures division { (p : Plan) (first second : List Step) → HaveOneCourse first second → IsRun p first → IsRun p second
-        → limits first ≡ 0 → limits second ≡ 0 → HasFurther (journal p first) (journal p second) → HasTwins first second }
+    ensures division { (p : Plan) (first second : List Step) → HaveOneCourse first second
+        → IsRun p first → IsRun p second → limits first ≡ 0 → limits second ≡ 0
+        → HasFurther (journal p first) (journal p second) → HasTwins first second }
 {
     refused_datagrams_leave_no_trace();
 }
@@ -247,8 +264,8 @@ pub fn refused_datagrams_leave_no_trace_in_a_session()
 /// Of the switches, appends and ticks with their samples, and of the places of the pumps, a journal has one division into the
 /// sends and receives of a session: which sends were done and what each pump got can be read off it.
 pub fn a_journal_has_one_run()
-    ensures { (p : Plan) (first second : List Step) → HaveOneCourse first second → IsRun p first → IsRun p second
-        → journal p first ≡ journal p second → first ≡ second }
+    ensures { (p : Plan) (first second : List Step) → HaveOneCourse first second → IsRun p first
+        → IsRun p second → journal p first ≡ journal p second → first ≡ second }
 {}
 
 /// What the laws below say of turns, of what read groups take of them, of rows and of senders, as one record.

@@ -19,7 +19,8 @@ use ps_config::{an_accepted_configuration_is_sound, the_built_in_configuration_i
 /// without a signature: the reader holds the closing row.
 pub fn readers_hold_on_in_noise()
     ensures noisy { InSession small_plan 0 0 0 0 noisy_session }
-    ensures noisy_link { ¬ IsHonestFor (setting_of small_plan.config 0) (journal small_plan noisy_session) }
+    ensures noisy_link { ¬ IsHonestFor (setting_of small_plan.config 0)
+        (journal small_plan noisy_session) }
     ensures noisy_held { (reader_at small_plan.config 0 0 noisy_session).kept.row ≡ Some small_row }
     ensures signed { IsNewestWhere ClosingGotSecured three_plan 0 0 noisy_three_session three_rows }
 {

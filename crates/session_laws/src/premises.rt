@@ -21,9 +21,11 @@ pub fn an_honest_link_delivers_what_was_sent()
 
 /// A session has one closing tick at most, whose sample of a data set is of one version; no tick sampled a later one.
 pub fn a_session_closes_once_with_its_newest_versions()
-    ensures once { (limit : ℕ) (p : Plan) (steps : List Step) (index one other : ℕ) → AreStepsOf limit p steps
-        → ClosesWith steps index one → ClosesWith steps index other → one ≡ other }
-    ensures newest { (limit : ℕ) (p : Plan) (steps : List Step) (index version : ℕ) (now : MetaData) (sample : Sampled)
-        → AreStepsOf limit p steps → SamplesRise p steps → ClosesWith steps index version
-        → HasSample p steps index now sample → sample.version ≤ version }
+    ensures once { (limit : ℕ) (p : Plan) (steps : List Step) (index one other : ℕ)
+        → AreStepsOf limit p steps → ClosesWith steps index one
+        → ClosesWith steps index other → one ≡ other }
+    ensures newest { (limit : ℕ) (p : Plan) (steps : List Step) (index version : ℕ) (now : MetaData)
+        (sample : Sampled) → AreStepsOf limit p steps → SamplesRise p steps
+        → ClosesWith steps index version → HasSample p steps index now sample
+        → sample.version ≤ version }
 {}

@@ -27,20 +27,24 @@ use crate::laws::{
 /// last eight. A reader to which the frame of its writer's closing turn came is told to hold the version that the closing tick
 /// sampled (`newest`).
 pub fn closed_sessions_tell_published_versions()
-    ensures there { (p : Plan) (r i g w : ℕ) (steps : List Step) (closed : Closed) → InSession p r i g w steps
-        → IsClosedAfter p steps closed
-        → ((end : ReaderEnd) × EndsReader p.config closed r i end) × ((end : WriterEnd) × EndsWriter p.config closed g w end) }
-    ensures readers { (p : Plan) (r i g w : ℕ) (steps : List Step) (rows : ℕ → ℕ → List DataValue) (closed : Closed)
-        (reader : ReaderEnd) (writer : WriterEnd) → InSession p r i g w steps → AreVersions p steps rows
-        → IsClosedAfter p steps closed → EndsReader p.config closed r i reader → EndsWriter p.config closed g w writer
+    ensures there { (p : Plan) (r i g w : ℕ) (steps : List Step) (closed : Closed)
+        → InSession p r i g w steps → IsClosedAfter p steps closed
+        → ((end : ReaderEnd) × EndsReader p.config closed r i end)
+        × ((end : WriterEnd) × EndsWriter p.config closed g w end) }
+    ensures readers { (p : Plan) (r i g w : ℕ) (steps : List Step) (rows : ℕ → ℕ → List DataValue)
+        (closed : Closed) (reader : ReaderEnd) (writer : WriterEnd) → InSession p r i g w steps
+        → AreVersions p steps rows → IsClosedAfter p steps closed
+        → EndsReader p.config closed r i reader → EndsWriter p.config closed g w writer
         → TellsReader p r i g w steps rows writer.log reader }
-    ensures newest { (p : Plan) (r i g w : ℕ) (steps : List Step) (rows : ℕ → ℕ → List DataValue) (closed : Closed)
-        (version : ℕ) (own : WriterTurn) → InSession p r i g w steps → AreVersions p steps rows
-        → IsClosedAfter p steps closed → ClosesWith steps (writer_at (group_at p.config g) w).dataset version
+    ensures newest { (p : Plan) (r i g w : ℕ) (steps : List Step) (rows : ℕ → ℕ → List DataValue)
+        (closed : Closed) (version : ℕ) (own : WriterTurn) → InSession p r i g w steps
+        → AreVersions p steps rows → IsClosedAfter p steps closed
+        → ClosesWith steps (writer_at (group_at p.config g) w).dataset version
         → ClosingComes p r i g w steps own → IsNewestTold p r i g w rows closed version }
-    ensures writers { (p : Plan) (g w : ℕ) (steps : List Step) (closed : Closed) (end : WriterEnd) → IsPlan p
-        → AreSteps p steps → SamplesRise p steps → IsClosedAfter p steps closed
-        → w < length (group_at p.config g).writer → EndsWriter p.config closed g w end → TellsWriter p g w steps end }
+    ensures writers { (p : Plan) (g w : ℕ) (steps : List Step) (closed : Closed) (end : WriterEnd)
+        → IsPlan p → AreSteps p steps → SamplesRise p steps → IsClosedAfter p steps closed
+        → w < length (group_at p.config g).writer → EndsWriter p.config closed g w end
+        → TellsWriter p g w steps end }
 {
     matched_readers_hold_published_versions();
     data_messages_stand_for_versions();
@@ -49,8 +53,8 @@ pub fn closed_sessions_tell_published_versions()
 
 /// The headline: what a session of an accepted plan tells when it is closed.
 pub fn a_closed_session_tells_the_headline()
-    ensures { (p : Plan) (steps : List Step) (rows : ℕ → ℕ → List DataValue) (closed : Closed) → HasRun p steps rows
-        → IsClosedAfter p steps closed → TellsHeadline p steps rows closed }
+    ensures { (p : Plan) (steps : List Step) (rows : ℕ → ℕ → List DataValue) (closed : Closed)
+        → HasRun p steps rows → IsClosedAfter p steps closed → TellsHeadline p steps rows closed }
 {
     closed_sessions_tell_published_versions();
     data_messages_stand_for_versions();

@@ -21,8 +21,10 @@ use reader_group::{secured_readers_have_their_records, what_a_secured_group_take
 pub fn signed_readers_have_their_records()
     ensures { (m : Making) (setting : Setting) (way : Way) (events : List Event)
         → is_secured setting.setup.mode ≡ true → goes_by_numbers way ≡ true → SendsRise m.sent
-        → SignedAreMade m setting way events → IsWayOf setting way events → ChunksNear (marks setting way events)
-        → MemberIs way (marks setting way events) (member_at (plain setting events).members way.index) }
+        → SignedAreMade m setting way events → IsWayOf setting way events
+        → ChunksNear (marks setting way events)
+        → MemberIs way (marks setting way events)
+        (member_at (plain setting events).members way.index) }
 {
     secured_readers_have_their_records();
     what_a_secured_group_takes_is_signed();
@@ -33,7 +35,8 @@ pub fn signed_readers_have_their_records()
 pub fn a_sessions_sender_makes_what_is_signed()
     ensures { (m : Making) × SendsRise m.sent
         × SignedAreMade m (setting_of three_plan.config 0)
-        (way_of three_plan.config 0 0 (first_number_of three_plan.config 0 0)) (events three_plan.config 0 three_session) }
+        (way_of three_plan.config 0 0 (first_number_of three_plan.config 0 0))
+        (events three_plan.config 0 three_session) }
 {
     what_the_laws_below_say();
     the_premises_of_turns_are_met();

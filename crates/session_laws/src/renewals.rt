@@ -22,8 +22,9 @@ use writer_group::no_token_and_number_come_twice_in_groups;
 /// No two datagrams of a life that one key group protects have the same token and number, over any link, whichever rings renew the
 /// key group in between, in whichever order and with whichever tokens, and however long it lasts.
 pub fn no_token_and_number_come_twice_in_a_life()
-    ensures { (limit : ℕ) (p : Plan) (k : ℕ) (life : List Lived) → IsPlan p → AreStepsOf limit p (steps_in life)
-        → HasShortTokens life → k < length p.config.keygroup → AllPairs HaveOtherNumbers (protected_in_life p k life) }
+    ensures { (limit : ℕ) (p : Plan) (k : ℕ) (life : List Lived) → IsPlan p
+        → AreStepsOf limit p (steps_in life) → HasShortTokens life → k < length p.config.keygroup
+        → AllPairs HaveOtherNumbers (protected_in_life p k life) }
 {
     no_token_and_number_come_twice_in_groups();
     each_turn_of_a_life_holds();
@@ -31,7 +32,8 @@ pub fn no_token_and_number_come_twice_in_a_life()
 
 /// No secured read group takes a pair of token and number twice in a life, whichever rings renew its keys in between.
 pub fn no_pair_is_taken_twice_in_a_life()
-    ensures { (p : Plan) (r : ℕ) (life : List Lived) → is_secured (setting_of p.config r).setup.mode ≡ true
+    ensures { (p : Plan) (r : ℕ) (life : List Lived)
+        → is_secured (setting_of p.config r).setup.mode ≡ true
         → AreDistinctPairs (taken_in_life p r life) }
 {
     a_renewed_group_takes_no_pair_twice();
@@ -42,7 +44,8 @@ pub fn no_pair_is_taken_twice_in_a_life()
 pub fn tokens_never_fall_in_a_life()
     ensures protects { (p : Plan) (k : ℕ) (later before : List Lived)
         → token_in_life p k before ≤ token_in_life p k (later ++ before) }
-    ensures takes { (p : Plan) (r : ℕ) (life : List Lived) → is_secured (setting_of p.config r).setup.mode ≡ true
+    ensures takes { (p : Plan) (r : ℕ) (life : List Lived)
+        → is_secured (setting_of p.config r).setup.mode ≡ true
         → TokensRise (taken_in_life p r life) }
 {}
 
@@ -50,7 +53,7 @@ pub fn tokens_never_fall_in_a_life()
 pub fn a_ring_has_short_tokens(ring: &Ring)
     ensures { HaveShortTokens (key_sets ring.now) }
 {
-    let _ = ring.key_sets();
+    let _sets = ring.key_sets();
 }
 
 /// A session of a signed group that a ring renews behind its closing tick lives so: its plan, its steps and its ring are what the laws

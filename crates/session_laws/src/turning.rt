@@ -14,7 +14,8 @@ use writer_group::{
 /// Each turn of a session's groups has headers that can be written, answers that are frames of their data sets, and at most 1,024
 /// datagrams, secured or not, whatever fields are appended, and however many ticks come.
 pub fn each_turn_of_a_session_holds()
-    ensures { (limit : ℕ) (p : Plan) (steps : List Step) → IsPlan p → AreStepsOf limit p steps → TurnsHold p steps }
+    ensures { (limit : ℕ) (p : Plan) (steps : List Step) → IsPlan p → AreStepsOf limit p steps
+        → TurnsHold p steps }
 {
     cut_rows_have_words();
     headers_of_a_turn_can_be_written();
@@ -24,8 +25,8 @@ pub fn each_turn_of_a_session_holds()
 
 /// So has each turn of a life, whichever rings renew its senders: their tokens have 32 bits, as those of each ring in memory.
 pub fn each_turn_of_a_life_holds()
-    ensures { (limit : ℕ) (p : Plan) (life : List Lived) → IsPlan p → AreStepsOf limit p (steps_in life)
-        → HasShortTokens life → TurnsHoldIn p life }
+    ensures { (limit : ℕ) (p : Plan) (life : List Lived) → IsPlan p
+        → AreStepsOf limit p (steps_in life) → HasShortTokens life → TurnsHoldIn p life }
 {
     cut_rows_have_words();
     headers_of_a_turn_can_be_written();

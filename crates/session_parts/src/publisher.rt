@@ -21,7 +21,7 @@ ghost use Rattle.session_parts.specs.declared.sends.GroupSends.{GroupSends as Se
 use crate::sends::{GroupSends, LinkSends};
 use dataset_meta::Meta;
 use message_guard::Sender;
-use ps_config::{Config, GroupPart};
+use ps_config::{Config, GroupPart, MOST_WRITERS};
 use pubsub_states::{Component, Tree, ids_are_places_in_order};
 use ua_base::{Link, Sent, Ticked};
 use writer_group::{Datagrams, Group, Sampled};
@@ -54,9 +54,6 @@ pub struct Told<'a> {
     /// Whether it is the closing tick, in which each Operational group has its turn.
     pub closing: bool,
 }
-
-/// The most writers of a group.
-pub const MOST_WRITERS: usize = 16;
 
 impl Publisher {
     /// Each sender turns to the moment, in milliseconds. A changed token refreshes the writers of its groups: the next frame

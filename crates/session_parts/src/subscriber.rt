@@ -15,7 +15,7 @@ ghost use Rattle.session_parts.specs.Pumping.{Hands, IsOperationalIn, MayHand, T
 ghost use Rattle.session_parts.specs.Befalling.{HaveExpired, HaveStoppedBelow, IsStoppedBelow, IsStoppedIf, StaysMadeOf, StillHold};
 
 use crate::tally::Tally;
-use ps_config::{Config, ReadGroupPart};
+use ps_config::{Config, MOST_READERS, ReadGroupPart};
 use pubsub_model::Why;
 use pubsub_states::{Component, Tree, ids_are_places_in_order};
 use reader_group::ReaderGroup;
@@ -28,9 +28,6 @@ pub struct Subscriber {
     /// What each of them answered to the datagrams that it was given.
     pub tallies: Vec<Tally>,
 }
-
-/// The most readers of a read group.
-pub const MOST_READERS: usize = 16;
 
 impl Subscriber {
     /// Looks at the timers of all readers at the moment, in milliseconds (OPC 10000-14, MessageReceiveTimeout): a reader whose

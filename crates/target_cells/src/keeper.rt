@@ -36,7 +36,7 @@ impl Keeper {
         ensures keeper { IsKeeper (pass_at self.entry.now reader) }
     {
         let pass = &self.items[usize::from(reader)];
-        let _ = pass.row();
+        let _row = pass.row();
         pass
     }
 }

@@ -45,8 +45,9 @@ pub fn a_text_of_json_tells_its_lines()
 /// why there is none; and the same counts of the link.
 pub fn a_text_of_a_relay_tells_one_gateway()
     ensures { (first second : Config) (one other : Closed) (steps others : List Step)
-        (kept stores : ℕ → List StoreVersion) (text : List ℕ) → IsReported first one → IsReported first other
-        → GatewayHasNumbers second steps kept → GatewayHasNumbers second others stores
-        → IsTextOf first one second steps kept text → IsTextOf first other second others stores text
+        (kept stores : ℕ → List StoreVersion) (text : List ℕ) → IsReported first one
+        → IsReported first other → GatewayHasNumbers second steps kept
+        → GatewayHasNumbers second others stores → IsTextOf first one second steps kept text
+        → IsTextOf first other second others stores text
         → AreGatewaysAlike second steps others kept stores }
 {}

@@ -21,3 +21,4 @@ pub mod LifeReading
 pub mod LifeRecords
 pub mod Honest
 pub mod NearPlaces
+pub mod CutLogs

@@ -23,8 +23,9 @@ use writer_group::no_token_and_number_come_twice_in_groups;
 /// Of a group alone, all of whose datagrams are under one token: over its turns, of however many datagrams each, the numbers of those
 /// in which a writer answered rise with the places of its answers, which rise by at most as much.
 pub fn numbers_of_a_group_rise_with_places()
-    ensures { (config : Config) (group : GroupPart) (w used : ℕ) (past : List GroupDeed) → AreTurns config group past
-        → w < length group.writer → RiseTogether (numbered_in group w used past) }
+    ensures { (config : Config) (group : GroupPart) (w used : ℕ) (past : List GroupDeed)
+        → AreTurns config group past → w < length group.writer
+        → RiseTogether (numbered_in group w used past) }
 {}
 
 /// So do the numbers that the sender of a key group gives under each token, whichever of the key group's groups have turns in between
@@ -33,28 +34,31 @@ pub fn numbers_of_a_group_rise_with_places()
 /// sent, its token and number and the 16 bits of the place tell it (`names`, `numbers`); in a session of fewer than 65,536 ticks the
 /// 16 bits alone do, from the writer's first number on (`first`).
 pub fn numbers_rise_with_places_over_all_turns()
-    ensures session { (p : Plan) (k g w : ℕ) (steps : List Step) → IsPlan p → IsWriterUnder p.config k g w
-        → SendsRise (sends_in p.config k g w (deeds p steps)) }
-    ensures life { (p : Plan) (k g w : ℕ) (life : List Lived) → IsPlan p → IsWriterUnder p.config k g w
+    ensures session { (p : Plan) (k g w : ℕ) (steps : List Step) → IsPlan p
+        → IsWriterUnder p.config k g w → SendsRise (sends_in p.config k g w (deeds p steps)) }
+    ensures life { (p : Plan) (k g w : ℕ) (life : List Lived) → IsPlan p
+        → IsWriterUnder p.config k g w
         → SendsRise (sends_in p.config k g w (account_in p life).deeds) }
-    ensures any { (config : Config) (k g w : ℕ) (list : List Deed) → IsWriterUnder config k g w → AreOwnTurns config list
-        → SendsRise (sends_in config k g w list) }
-    ensures names { (sent : ℕ → List (ℕ × ℕ)) → SendsRise sent → NamesPlaces (place_near sent) sent }
+    ensures any { (config : Config) (k g w : ℕ) (list : List Deed) → IsWriterUnder config k g w
+        → AreOwnTurns config list → SendsRise (sends_in config k g w list) }
+    ensures names { (sent : ℕ → List (ℕ × ℕ)) → SendsRise sent
+        → NamesPlaces (place_near sent) sent }
     ensures numbers { (sent : ℕ → List (ℕ × ℕ)) (token number own : ℕ)
         → number_of_place (place_near sent token number own) ≡ number_of_place own }
-    ensures first { (most : ℕ) (p : Plan) (k g w : ℕ) (steps : List Step) → IsPlan p → IsWriterUnder p.config k g w
-        → AreStepsOf most p steps → most < 65536
-        → NamesPlaces (λ token number. place_from (first_number_of p.config g w)) (sends_in p.config k g w (deeds p steps)) }
+    ensures first { (most : ℕ) (p : Plan) (k g w : ℕ) (steps : List Step) → IsPlan p
+        → IsWriterUnder p.config k g w → AreStepsOf most p steps → most < 65536
+        → NamesPlaces (λ token number. place_from (first_number_of p.config g w))
+        (sends_in p.config k g w (deeds p steps)) }
 {}
 
 /// All that the groups of a key group send is what its one sender makes of their turns, one after another, as it comes to the moments
 /// of ticks and whichever rings renew it: each use is allowed when it comes, and no token and number come twice. It is so in each
 /// session and each life whose turns hold, as those of a script do (`each_turn_of_a_session_holds`, `each_turn_of_a_life_holds`).
 pub fn one_sender_makes_what_a_key_group_sends()
-    ensures session { (p : Plan) (k : ℕ) (steps : List Step) → IsPlan p → TurnsHold p steps → k < length p.config.keygroup
-        → HasOneSender p.config k (deeds p steps) }
-    ensures life { (p : Plan) (k : ℕ) (life : List Lived) → IsPlan p → TurnsHoldIn p life → k < length p.config.keygroup
-        → HasOneSender p.config k (account_in p life).deeds }
+    ensures session { (p : Plan) (k : ℕ) (steps : List Step) → IsPlan p → TurnsHold p steps
+        → k < length p.config.keygroup → HasOneSender p.config k (deeds p steps) }
+    ensures life { (p : Plan) (k : ℕ) (life : List Lived) → IsPlan p → TurnsHoldIn p life
+        → k < length p.config.keygroup → HasOneSender p.config k (account_in p life).deeds }
 {
     no_token_and_number_come_twice_in_groups();
 }
@@ -67,12 +71,14 @@ pub fn one_sender_makes_what_a_key_group_sends()
 /// `session_records`).
 pub fn what_came_signed_was_made_by_its_sender()
     ensures made { (s : Signing) → IsSigning s → IsMadeBySender s }
-    ensures session { (most : ℕ) (p : Plan) (r i g w k : ℕ) (steps : List Step) (place : ℕ → ℕ → ℕ → ℕ)
-        → NamesPlaces place (sends_in p.config k g w (deeds p steps)) → IsSignedSession most p r i g w k steps
-        → IsSigning (signing_of p r i g w k steps place) }
-    ensures records { (s : Signing) → IsSigning s → IsWayOf (its_setting s) (its_way s) s.events → HasItsRecords s }
+    ensures session { (most : ℕ) (p : Plan) (r i g w k : ℕ) (steps : List Step)
+        (place : ℕ → ℕ → ℕ → ℕ) → NamesPlaces place (sends_in p.config k g w (deeds p steps))
+        → IsSignedSession most p r i g w k steps → IsSigning (signing_of p r i g w k steps place) }
+    ensures records { (s : Signing) → IsSigning s → IsWayOf (its_setting s) (its_way s) s.events
+        → HasItsRecords s }
     ensures session_records { (most : ℕ) (p : Plan) (r i g w k : ℕ) (steps : List Step)
-        → IsSignedSession most p r i g w k steps → HasItsRecords (signed_session p r i g w k steps) }
+        → IsSignedSession most p r i g w k steps
+        → HasItsRecords (signed_session p r i g w k steps) }
 {
     what_the_laws_below_say();
     signed_readers_have_their_records();
@@ -84,10 +90,10 @@ pub fn what_came_signed_was_made_by_its_sender()
 /// with the keys of its time (`records`). The rings owe that a token has the same keys in each of them, and that these are as long as
 /// the policy says; that their tokens have 32 bits `each_turn_of_a_life_holds` asks for its turns.
 pub fn what_came_signed_in_a_life_was_made_by_its_sender()
-    ensures made { (most : ℕ) (p : Plan) (r i g w k : ℕ) (life : List Lived) → IsSignedLife most p r i g w k life
-        → IsMadeBySenderIn p r i g w k life }
-    ensures records { (most : ℕ) (p : Plan) (r i g w k : ℕ) (life : List Lived) → IsSignedLife most p r i g w k life
-        → HasItsRecordsIn p r i g w k life }
+    ensures made { (most : ℕ) (p : Plan) (r i g w k : ℕ) (life : List Lived)
+        → IsSignedLife most p r i g w k life → IsMadeBySenderIn p r i g w k life }
+    ensures records { (most : ℕ) (p : Plan) (r i g w k : ℕ) (life : List Lived)
+        → IsSignedLife most p r i g w k life → HasItsRecordsIn p r i g w k life }
 {
     what_the_laws_below_say();
     signed_readers_have_their_records();

@@ -1,11 +1,13 @@
 //! Laws of the one sender of a key group, over all turns of its groups, whichever rings renew it: what it gave their datagrams, and that it
-//! made what came signed; and of readers of sessions that are longer than a script's.
+//! made what came signed; and of readers of sessions that are longer than a script's, and of what their cut logs tell.
 #![tactic(auto)]
 
+mod cut;
 mod laws;
 mod longer;
 mod witness;
 
+pub use cut::a_cut_log_tells_no_other_version;
 pub use laws::{
     numbers_of_a_group_rise_with_places, numbers_rise_with_places_over_all_turns,
     one_sender_makes_what_a_key_group_sends, what_came_signed_in_a_life_was_made_by_its_sender,

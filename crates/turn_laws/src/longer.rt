@@ -24,9 +24,11 @@ pub fn longer_sessions_are_read_by_records()
     ensures comes { (most : ℕ) (p : Plan) (r i g w : ℕ) (steps : List Step) → most < 65536
         → IsLongerSession most p r i g w steps → ComesFrom p r i g w steps }
     ensures records { (most : ℕ) (p : Plan) (r i g w : ℕ) (steps : List Step) → most ≤ 16384
-        → IsLongerSession most p r i g w steps → ReadsByRecords p.config r i (first_number_of p.config g w) steps }
-    ensures holds { (most : ℕ) (p : Plan) (r i g w : ℕ) (steps : List Step) (row : List DataValue) → most ≤ 16384
-        → IsLongerSession most p r i g w steps → (reader_at p.config r i steps).kept.row ≡ Some row
+        → IsLongerSession most p r i g w steps
+        → ReadsByRecords p.config r i (first_number_of p.config g w) steps }
+    ensures holds { (most : ℕ) (p : Plan) (r i g w : ℕ) (steps : List Step) (row : List DataValue)
+        → most ≤ 16384 → IsLongerSession most p r i g w steps
+        → (reader_at p.config r i steps).kept.row ≡ Some row
         → HoldsVersion (play_in p r i g w steps) (reader_at p.config r i steps).kept.number row }
 {
     what_the_laws_below_say();

@@ -21,8 +21,8 @@ use session_laws::{
 /// whose frames come in two chunks is one, for the reader of the signed group.
 pub fn signed_sessions_meet_the_premises()
     ensures opening { (setting : Setting) → IsHonestFor setting [] }
-    ensures delivered { (setting : Setting) (p : Plan) (ms : ℕ) (closing : Bool) (samples : List Sampled)
-        (before : List Step) → IsHonestFor setting (journal p before)
+    ensures delivered { (setting : Setting) (p : Plan) (ms : ℕ) (closing : Bool)
+        (samples : List Sampled) (before : List Step) → IsHonestFor setting (journal p before)
         → IsHonestFor setting (journal p (delivered_on p ms closing samples before)) }
     ensures signed { IsSignedSession most_ticks three_plan 0 0 0 0 0 three_session }
 {

@@ -49,13 +49,14 @@ pub fn ids_are_two_bytes_each()
 /// that differ in their numbers alone have the same length.
 pub fn a_length_goes_by_the_parts()
     ensures len { (one : HeaderValue) → IsHeader one → length (header_bytes one) ≡ header_len one }
-    ensures alike { (one other : HeaderValue) → IsAlike one other → header_len one ≡ header_len other }
+    ensures alike { (one other : HeaderValue) → IsAlike one other
+        → header_len one ≡ header_len other }
 {}
 
 /// Each writer id after the first makes a header two bytes longer.
 pub fn each_further_id_takes_two_bytes()
-    ensures { (one : HeaderValue) (id : ℕ) (ids : List ℕ)
-        → header_len (of_writers one (id ∷ ids)) ≡ header_len (of_writers one (id ∷ [])) + 2 * length ids }
+    ensures { (one : HeaderValue) (id : ℕ) (ids : List ℕ) → header_len (of_writers one (id ∷ ids))
+        ≡ header_len (of_writers one (id ∷ [])) + 2 * length ids }
 {}
 
 /// Bytes begin with the spelling of one sender's header at most.
@@ -78,13 +79,13 @@ pub fn reading_is_by_parts()
 pub fn flags_are_judged_by_their_bits()
     ensures version { (flags : ℕ) (rest : List ℕ) → flags % 16 ≢ 1
         → header_at (flags ∷ rest) ≡ Err (faults.Version (flags % 16)) }
-    ensures publisher_type { (flags extended1 : ℕ) (rest : List ℕ) → HasExtended1 flags → 4 < extended1 % 8
-        → header_at (flags ∷ extended1 ∷ rest) ≡ Err faults.BadPublisherType }
-    ensures discovery { (flags extended1 extended2 : ℕ) (rest : List ℕ) → HasExtended2 flags extended1
-        → (extended2 / 4 % 8 ≡ 1) ⊎ (extended2 / 4 % 8 ≡ 2)
+    ensures publisher_type { (flags extended1 : ℕ) (rest : List ℕ) → HasExtended1 flags
+        → 4 < extended1 % 8 → header_at (flags ∷ extended1 ∷ rest) ≡ Err faults.BadPublisherType }
+    ensures discovery { (flags extended1 extended2 : ℕ) (rest : List ℕ)
+        → HasExtended2 flags extended1 → (extended2 / 4 % 8 ≡ 1) ⊎ (extended2 / 4 % 8 ≡ 2)
         → header_at (flags ∷ extended1 ∷ extended2 ∷ rest) ≡ Err faults.DiscoveryOut }
-    ensures message_type { (flags extended1 extended2 : ℕ) (rest : List ℕ) → HasExtended2 flags extended1
-        → 2 < extended2 / 4 % 8
+    ensures message_type { (flags extended1 extended2 : ℕ) (rest : List ℕ)
+        → HasExtended2 flags extended1 → 2 < extended2 / 4 % 8
         → header_at (flags ∷ extended1 ∷ extended2 ∷ rest) ≡ Err faults.ReservedBits }
 {}
 
@@ -107,8 +108,9 @@ pub fn bytes_have_one_reading()
 pub fn read_headers_are_headers()
     ensures header { (bytes rest : List ℕ) (one : HeaderValue) → All (λ byte. byte < 256) bytes
         → header_at bytes ≡ Ok (one, rest) → IsRead one }
-    ensures nonce { (bytes : List ℕ) (security : SecurityValue) (payload : ℕ) → All (λ byte. byte < 256) bytes
-        → IsSecured bytes (Some security) payload → length security.nonce < 2 ^ 8 }
+    ensures nonce { (bytes : List ℕ) (security : SecurityValue) (payload : ℕ)
+        → All (λ byte. byte < 256) bytes → IsSecured bytes (Some security) payload
+        → length security.nonce < 2 ^ 8 }
 {}
 
 /// Of the bytes that a header is read from, fewer are Short.

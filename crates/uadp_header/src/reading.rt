@@ -57,7 +57,8 @@ fn read_flags(cursor: &mut Cursor<'_>) -> Result<u8, HeaderFault>
 #[inline(always)]
 #[tactic(auto, unfolding(crate::specs::Steps::flags_at, crate::specs::Steps::flags_when))]
 fn read_extended1(cursor: &mut Cursor<'_>, flags: u8) -> Result<u8, HeaderFault>
-    ensures { ReadsAhead result cursor.old cursor.new (flags_when (has flags 0x80) extended1_fault) }
+    ensures { ReadsAhead result cursor.old cursor.new
+        (flags_when (has flags 0x80) extended1_fault) }
 {
     if flags & EXTENDED1 == 0 {
         return Ok(0);
@@ -178,7 +179,8 @@ fn read_guid_if(cursor: &mut Cursor<'_>, present: bool) -> Result<Option<[u8; 16
 
 #[inline(always)]
 fn read_u16_if(cursor: &mut Cursor<'_>, present: bool) -> Result<Option<u16>, HeaderFault>
-    ensures { ReadsAhead result cursor.old cursor.new (part_at present (number_at faults.Short w16)) }
+    ensures { ReadsAhead result cursor.old cursor.new
+        (part_at present (number_at faults.Short w16)) }
 {
     if !present {
         return Ok(None);
@@ -188,7 +190,8 @@ fn read_u16_if(cursor: &mut Cursor<'_>, present: bool) -> Result<Option<u16>, He
 
 #[inline(always)]
 fn read_u32_if(cursor: &mut Cursor<'_>, present: bool) -> Result<Option<u32>, HeaderFault>
-    ensures { ReadsAhead result cursor.old cursor.new (part_at present (number_at faults.Short w32)) }
+    ensures { ReadsAhead result cursor.old cursor.new
+        (part_at present (number_at faults.Short w32)) }
 {
     if !present {
         return Ok(None);
@@ -304,7 +307,8 @@ fn read_security_if<'a>(
     cursor: &mut Cursor<'a>,
     present: bool,
 ) -> Result<Option<SecurityPart<'a>>, HeaderFault>
-    ensures { ReadsAs (if_there security_in) result cursor.old cursor.new (part_at present security_at) }
+    ensures { ReadsAs (if_there security_in) result cursor.old cursor.new
+        (part_at present security_at) }
 {
     if !present {
         return Ok(None);

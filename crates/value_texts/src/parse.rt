@@ -31,7 +31,8 @@ pub fn parse_value(kind: Kind, cap: u16, word: &[u8]) -> Option<Value>
 #[tactic(auto, unfolding(crate::specs::Texts::value_text_of))]
 pub fn parse_status(word: &[u8]) -> Option<u32>
     ensures found { IfSome result (λ status. word.now ≡ hex_text_32 status) }
-    ensures every { (status : ℕ) → status < 2 ^ 32 → word.now ≡ hex_text_32 status → result ≡ Some status }
+    ensures every { (status : ℕ) → status < 2 ^ 32 → word.now ≡ hex_text_32 status
+        → result ≡ Some status }
 {
     let status = bits_32(word)?;
     if is_printed_as(&Value::StatusCode(status), word) {

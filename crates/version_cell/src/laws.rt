@@ -73,7 +73,7 @@ pub fn histories_are_the_models()
         → let fields = cell.meta.fields in row_in fields (row_with cell patch p)
         ≡ patched (row_in fields (row_after p.seen)) (patch_in fields patch) }
 {
-    let _ = Row::opening();
+    let _zeros = Row::opening();
     words_belong_by_shape();
     patched_words_belong();
 }

@@ -30,7 +30,7 @@ impl Passes {
         ensures lawful { SeesLawful (pass_at self.entry.now index) }
     {
         let pass = &self.items[usize::from(index)];
-        let _ = pass.row();
+        let _row = pass.row();
         pass
     }
 }

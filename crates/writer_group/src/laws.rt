@@ -43,7 +43,8 @@ pub fn headers_of_a_turn_can_be_written()
 /// What a writer answers with its turn is a frame of its data set, where its rows since its last refresh are of this, with the
 /// turn's own, and the versions have 32 bits.
 pub fn each_answer_is_a_frame()
-    ensures { OfEachTurn (λ config part past input. (writer : ℕ) → AnswersFrame part past input writer) }
+    ensures { OfEachTurn (λ config part past input. (writer : ℕ)
+        → AnswersFrame part past input writer) }
 {}
 
 /// A turn makes at most 1,024 datagrams, where no group lacks room for its data sets' frames and what each writer answers is one.

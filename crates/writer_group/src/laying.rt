@@ -57,7 +57,8 @@ impl<'a> Cargo<'a> {
     fn frame(&self, index: u8) -> &SpelledFrame
         requires cargo { IsCargo self.now }
         requires within { index < length (listed self.now.frames.now) }
-        ensures frame { spelled_at self.now.bytes.now result.now ≡ frame_at (cargo_in self.now) index }
+        ensures frame { spelled_at self.now.bytes.now result.now
+            ≡ frame_at (cargo_in self.now) index }
         ensures within { IsWithin (length self.now.bytes.now) result.now }
     {
         &self.frames.list()[usize::from(index)]
@@ -108,7 +109,8 @@ impl<'a> Cargo<'a> {
     fn put(&self, pen: &mut Pen<'_>, start: usize, load: Load)
         requires cargo { IsCargo self.now }
         requires load { IsLoad (cargo_in self.now) load }
-        requires header { HasHeaderOf (cargo_in self.now) load (take (pen.old.at - start) (drop start pen.old.bytes.now)) }
+        requires header { HasHeaderOf (cargo_in self.now) load
+            (take (pen.old.at - start) (drop start pen.old.bytes.now)) }
         requires start { start ≤ pen.old.at }
         requires room { pen.old.at + length (payload_by self.now load) ≤ length pen.old.bytes.now }
         ensures { Puts pen.old pen.new (payload_by self.now load) }
@@ -313,7 +315,8 @@ fn put_sizes(pen: &mut Pen<'_>, sizes: &[u16])
 
 fn put_chunk_payload(pen: &mut Pen<'_>, chunk: &ChunkPayload<'_>)
     requires short { length chunk.now.data.now < 2147483648 }
-    requires room { pen.old.at + length (chunk_bytes (chunk_in chunk.now)) ≤ length pen.old.bytes.now }
+    requires room { pen.old.at + length (chunk_bytes (chunk_in chunk.now))
+        ≤ length pen.old.bytes.now }
     ensures { Puts pen.old pen.new (chunk_bytes (chunk_in chunk.now)) }
 {
     match write_chunk(pen, chunk) {

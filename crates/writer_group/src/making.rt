@@ -101,8 +101,8 @@ impl Group {
             loads.now }
         requires empty { ranges.old.items ≡ [] }
         requires left { length loads.now ≤ vec_capacity ranges.old }
-        ensures filled { IsFilled config.now group.now (Some sender.old) self.now buffer.old frames.now
-            loads.now buffer.new ranges.new.items }
+        ensures filled { IsFilled config.now group.now (Some sender.old) self.now buffer.old
+            frames.now loads.now buffer.new ranges.new.items }
         ensures capacity { vec_capacity ranges.old ≤ vec_capacity ranges.new }
         ensures sender { sender.new
             ≡ advanced_by (mode_of group.now.security) sender.old (length loads.now) }

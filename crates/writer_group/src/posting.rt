@@ -43,7 +43,8 @@ pub(crate) fn post_open<'a>(
     requires empty { ranges.old.items ≡ [] }
     requires left { length loads.now ≤ vec_capacity ranges.old }
     requires room { length (joined (made_by parts.now None cargo.now loads.now)) ≤ length free.old }
-    ensures laid { free.new ≡ laid free.old 0 (joined (made_by parts.now None cargo.now loads.now)) }
+    ensures laid { free.new
+        ≡ laid free.old 0 (joined (made_by parts.now None cargo.now loads.now)) }
     ensures ranges { ranges.new.items ≡ ranges_of 0 (made_by parts.now None cargo.now loads.now) }
     ensures written { AreWritten (envelope_in parts.now) None 0 (payloads_in cargo.now loads.now) }
     ensures capacity { vec_capacity ranges.old ≤ vec_capacity ranges.new }
@@ -75,10 +76,14 @@ pub(crate) fn post_secured<'a>(
     requires sender { IsSender sender.old }
     requires empty { ranges.old.items ≡ [] }
     requires left { length loads.now ≤ vec_capacity ranges.old }
-    requires room { length (joined (made_by parts.now (Some sender.old) cargo.now loads.now)) ≤ length free.old }
-    ensures laid { free.new ≡ laid free.old 0 (joined (made_by parts.now (Some sender.old) cargo.now loads.now)) }
-    ensures ranges { ranges.new.items ≡ ranges_of 0 (made_by parts.now (Some sender.old) cargo.now loads.now) }
-    ensures written { AreWritten (envelope_in parts.now) (Some sender.old) 0 (payloads_in cargo.now loads.now) }
+    requires room { length (joined (made_by parts.now (Some sender.old) cargo.now loads.now))
+        ≤ length free.old }
+    ensures laid { free.new
+        ≡ laid free.old 0 (joined (made_by parts.now (Some sender.old) cargo.now loads.now)) }
+    ensures ranges { ranges.new.items
+        ≡ ranges_of 0 (made_by parts.now (Some sender.old) cargo.now loads.now) }
+    ensures written { AreWritten (envelope_in parts.now) (Some sender.old) 0
+        (payloads_in cargo.now loads.now) }
     ensures capacity { vec_capacity ranges.old ≤ vec_capacity ranges.new }
     ensures sender { sender.new ≡ advanced_by mode sender.old (length loads.now) }
 {
@@ -121,8 +126,8 @@ fn open_datagram<'a>(
     requires few { index < most_datagrams }
     requires post { MayPost (envelope_in parts.now) cargo.now (load ∷ []) }
     requires unsecured { is_secured (mode_of (settings_in parts.now).security) ≡ false }
-    requires room { start + length (open_load (envelope_in parts.now) index (cargo_in cargo.now) load)
-        ≤ length free.old }
+    requires room { start + length (open_load (envelope_in parts.now) index (cargo_in cargo.now)
+        load) ≤ length free.old }
     ensures laid { free.new ≡ laid free.old start
         (open_load (envelope_in parts.now) index (cargo_in cargo.now) load) }
     ensures header { IsWritten (open_header (envelope_in parts.now) index
@@ -186,7 +191,8 @@ fn lay_fronted<'a>(
         ≤ length free.old }
     ensures laid { free.new ≡ laid free.old start
         (laid_by parts.now index cargo.now load (front_of front.now)) }
-    ensures header { IsWritten (load_header_by parts.now index cargo.now load (front_of front.now)) }
+    ensures header { IsWritten (load_header_by parts.now index cargo.now load
+        (front_of front.now)) }
     ensures payload { result.0 ≡ start
         + length (head_by parts.now index cargo.now load (front_of front.now)) }
     ensures end { result.1 ≡ start

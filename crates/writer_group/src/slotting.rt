@@ -25,7 +25,8 @@ pub(crate) fn put_slots(
     requires apart { AreApart slots.now.start slots.now.slots }
     requires frames { AreFrames slots.now.slots (in_slots (frames_at bytes.now frames.now)) }
     requires within { All (IsWithin (length bytes.now)) (listed frames.now) }
-    requires room { pen.old.at + (last_end slots.now.slots - slots.now.start) ≤ length pen.old.bytes.now }
+    requires room { pen.old.at + (last_end slots.now.slots - slots.now.start)
+        ≤ length pen.old.bytes.now }
     ensures { Puts pen.old pen.new (slots_by slots.now (frames_at bytes.now frames.now)) }
 {
     let header = pen.at - start;

@@ -166,8 +166,10 @@ impl Frames {
 fn put_frame(bytes: &mut [u8], at: usize, layout: Layout, meta: &Meta, frame: &Frame) -> usize
     requires frame { IsFrameOf meta.now frame.now }
     requires room { at + 2048 ≤ length bytes.old }
-    ensures laid { bytes.new ≡ laid bytes.old at (laid_frame layout meta.now (frame_in meta.now.fields frame.now)) }
-    ensures end { result ≡ at + length (laid_frame layout meta.now (frame_in meta.now.fields frame.now)) }
+    ensures laid { bytes.new
+        ≡ laid bytes.old at (laid_frame layout meta.now (frame_in meta.now.fields frame.now)) }
+    ensures end { result
+        ≡ at + length (laid_frame layout meta.now (frame_in meta.now.fields frame.now)) }
     ensures short { result ≤ at + 2048 }
 {
     match layout {
@@ -207,7 +209,8 @@ fn lay_raw_message(bytes: &mut [u8], at: usize, meta: &Meta, frame: &Frame) -> u
 fn put_message(pen: &mut Pen<'_>, meta: &Meta, frame: &Frame)
     requires frame { IsFrameOf meta.now frame.now }
     requires room { pen.old.at + 2048 ≤ length pen.old.bytes.now }
-    ensures puts { Puts pen.old pen.new (frame_bytes meta.now.quality (frame_in meta.now.fields frame.now)) }
+    ensures puts { Puts pen.old pen.new
+        (frame_bytes meta.now.quality (frame_in meta.now.fields frame.now)) }
     ensures short { pen.new.at ≤ pen.old.at + 2048 }
 {
     prove!(!meta.fields().is_empty());
@@ -220,7 +223,8 @@ fn put_message(pen: &mut Pen<'_>, meta: &Meta, frame: &Frame)
 fn put_raw_message(pen: &mut Pen<'_>, meta: &Meta, frame: &Frame)
     requires frame { IsFrameOf meta.now frame.now }
     requires room { pen.old.at + 2048 ≤ length pen.old.bytes.now }
-    ensures puts { Puts pen.old pen.new (raw_frame meta.now.fields (frame_in meta.now.fields frame.now)) }
+    ensures puts { Puts pen.old pen.new
+        (raw_frame meta.now.fields (frame_in meta.now.fields frame.now)) }
     ensures short { pen.new.at ≤ pen.old.at + 2048 }
 {
     put_raw_front(pen, frame);

@@ -16,7 +16,7 @@ returns-clause-text g c =
 
 pub returns-in_err-written-clause-over : goal.returns-in_err-written-clause-over
 returns-in_err-written-clause-over g c =
-    let same = as-failed {U = Written} c.from_residual-in_err-written.result c.in_err-written.field-0.0 c.from_residual-in_err-written.ensures.1 in
+    let same = as-failed {U = Written} c.from_residual.result c.in_err-written.field-0.0 c.from_residual.ensures.1 in
     performs-as g.A.Link.told g.A.Link.patience g.A.Link.opened_with g.A.Link.faults g.A.Link.made g.A.Link.openings (opening_of c.args.accepted.now.config c.args.accepted.now.script) _ _ _ _ _ _
     same.0 same.1 c.in_err-written.ensures.over
 

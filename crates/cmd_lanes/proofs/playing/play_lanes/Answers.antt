@@ -31,7 +31,7 @@ returns-clause-text g c =
 pub returns-in_err-turns-clause-over : goal.returns-in_err-turns-clause-over
 returns-in_err-turns-clause-over g c =
     performs-unused g.L.Link.told g.L.Link.patience g.L.Link.opened_with g.L.Link.faults g.L.Link.made g.L.Link.openings (opening_of c.args.config.now c.args.script.now) _ _ c.args.link.now
-    (for-memory c.from_residual-in_err-turns.result c.from_residual-in_err-turns.ensures.1)
+    (for-memory c.from_residual.result c.from_residual.ensures.1)
 
 pub returns-in_err-lanes-clause-over : goal.returns-in_err-lanes-clause-over
 returns-in_err-lanes-clause-over g c =

@@ -3,7 +3,8 @@ use Rattle.std.proofs.lemmas.Option.{same_Some}
 use Rattle.ps_config.specs.declared.parts.ReadGroupPart.{ReadGroupPart}
 use Rattle.ps_config.specs.declared.parts.ReaderPart.{ReaderPart}
 use Rattle.pubsub_engine.specs.Logs.{IsLogRead, log_after}
-use Rattle.pubsub_engine.proofs.Named.{no-log-told, same-publisher}
+use Rattle.pubsub_engine.proofs.Named.{no-log-told}
+use Rattle.config_tables.proofs.Publishers.{same-publisher}
 use Rattle.pubsub_engine.proofs.logs.log_read.Goals as goal
 
 pub returns-then-not-versions : goal.returns-then-not-versions
@@ -15,7 +16,7 @@ returns-then-not-versions c = record {
 
 pub returns-in-Some : goal.returns-in-Some
 returns-in-Some c =
-    let own : c.in-Some.group.now.publisher ≡ c.args.config.now.publisher.id = same-publisher c.in-Some.group.now.publisher c.args.config.now.publisher.id (sym c.is_same_publisher.ensures ∙ c.if-is_same_publisher.true) in
+    let own : c.in-Some.group.now.publisher ≡ c.args.config.now.publisher.id = same-publisher c.in-Some.group.now.publisher c.args.config.now.publisher.id (sym c.is_same.ensures ∙ c.if-is_same.true) in
     record {
       log = λ at found.
           let same : ◌≡◌ {A = ReadGroupPart × ReaderPart} (c.in-Some.group.now, c.in-Some.part.now) at =

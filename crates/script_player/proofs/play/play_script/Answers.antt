@@ -75,7 +75,7 @@ returns-clause-closed g c =
 pub returns-in_err-player-clause-over : goal.returns-in_err-player-clause-over
 returns-in_err-player-clause-over g c =
     performs-unused g.L.Link.told g.L.Link.patience g.L.Link.opened_with g.L.Link.faults g.L.Link.made g.L.Link.openings (opening_of c.args.config.now c.args.script.now) _ _ c.args.link.now
-    (for-memory c.from_residual-in_err-player.result c.from_residual-in_err-player.ensures.1)
+    (for-memory c.from_residual.result c.from_residual.ensures.1)
 
 pub returns-in_err-fates-clause-over : goal.returns-in_err-fates-clause-over
 returns-in_err-fates-clause-over g c =

@@ -1,4 +1,4 @@
-use Rattle.std.proofs.Common.{List, length, map, sym, ap, ◌∙◌, subst, arith}
+use Rattle.std.proofs.Common.{List, length, map, sym, ap, ◌∙◌, subst}
 use Rattle.std.specs.Prelude.{All}
 use Rattle.version_cell.specs.Sets.{ArePassesOf}
 use Rattle.app_threads.specs.declared.done.Done.{Done}
@@ -54,9 +54,8 @@ returns g c =
       bank_new = c.in_ok-pass.ensures.bank;
     } in
     let of_script = ends-script bank targets old met level new dones left told after are c.requires.script in
-    let few = of_script.few in
     let e = c.close.ensures in
     record {
-      finishes = finishes bank targets old met level new dones left told after c.close.result are of_script (e.whole of_script.whole (omega (arith, few))) e.histories e.watches e.of;
+      finishes = finishes bank targets old met level new dones left told after c.close.result are of_script (e.whole of_script.whole) e.histories e.watches e.of;
       link = c.pass.ensures.link;
     }

@@ -119,7 +119,7 @@ returns-clause-closed g c = (completed g c).closed_of
 -- memory ran out before the link was opened
 pub returns-in_err-session-clause-over : goal.returns-in_err-session-clause-over
 returns-in_err-session-clause-over g c =
-    performs-unused g.L.Link.told g.L.Link.patience g.L.Link.opened_with g.L.Link.faults g.L.Link.made g.L.Link.openings (opening_of c.args.config.now c.args.script.now) _ _ c.args.link.now (for-memory c.from_residual-in_err-session.result c.from_residual-in_err-session.ensures.1)
+    performs-unused g.L.Link.told g.L.Link.patience g.L.Link.opened_with g.L.Link.faults g.L.Link.made g.L.Link.openings (opening_of c.args.config.now c.args.script.now) _ _ c.args.link.now (for-memory c.from_residual.result c.from_residual.ensures.1)
 
 pub returns-in_err-lists-clause-over : goal.returns-in_err-lists-clause-over
 returns-in_err-lists-clause-over g c =

@@ -1,4 +1,4 @@
-use Rattle.std.proofs.Common.{◌≡◌, ◌∙◌, sym, refl, arith}
+use Rattle.std.proofs.Common.{◌≡◌, ◌∙◌, [], sym, refl, arith}
 use Rattle.ua_base.specs.Journal.{ReceiveFailed}
 use Rattle.mem_edge.specs.Calls.{next_call}
 use Rattle.mem_edge.specs.Standings.{settings_with}
@@ -6,6 +6,8 @@ use Rattle.mem_edge.specs.Transits.{injected_in, told_in}
 use Rattle.mem_edge.proofs.Fated.{fated-injected, fated-receive-failed, fated-received}
 use Rattle.mem_edge.proofs.Named.{named_from-later, named_from-named}
 use Rattle.mem_edge.proofs.Opened.{is_open_from, sends_kept}
+use Rattle.mem_edge.proofs.Makings.{same_making}
+use Rattle.mem_edge.proofs.Patience.{more_lasts, received_lasts}
 use Rattle.mem_edge.proofs.memory_link.MemoryLinkLink.receive.Goals as goal
 
 pub fail_receive-requires : goal.fail_receive-requires
@@ -67,3 +69,26 @@ invariant_of-self-2-clause-fated c = λ is_open.
     fated-injected (injected_in c.receive.new.self) (injected_in s.transit) s.send_fails.items s.receive_fails.items s.open_fails s.fates.items c.saturating_add-self.result (told_in c.receive.new.self) c.receive.ensures.injected
     (fated-received (settings_with (injected_in s.transit) s.send_fails.items s.receive_fails.items s.open_fails s.fates.items) s.receives c.saturating_add-self.result (told_in s.transit) (told_in c.receive.new.self) c.receive.result c.receive.new.into
     (s.fated is_open) c.receive.ensures.told c.receive.ensures.sizes c.receive.ensures.works not_named number)
+
+-- it tells on
+pub returns-then-named-clause-link : goal.returns-then-named-clause-link
+returns-then-named-clause-link c =
+    let s = c.args.self.now in
+    record {
+      lasts = more_lasts _ _ ReceiveFailed [] (λ n. refl) c.fail_receive.ensures.told;
+      opening = refl;
+      counted = omega arith;
+      making = same_making _ _ s.send_fails.items s.receive_fails.items s.open_fails c.fail_receive.ensures.injected;
+      opened = refl;
+    }
+
+pub returns-clause-link : goal.returns-clause-link
+returns-clause-link c =
+    let s = c.args.self.now in
+    record {
+      lasts = received_lasts c.receive.result c.receive.new.into _ _ c.receive.ensures.tells c.receive.ensures.tells_on c.receive.ensures.told;
+      opening = refl;
+      counted = omega arith;
+      making = same_making _ _ s.send_fails.items s.receive_fails.items s.open_fails c.receive.ensures.injected;
+      opened = refl;
+    }

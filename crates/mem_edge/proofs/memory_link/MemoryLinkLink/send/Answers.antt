@@ -12,6 +12,7 @@ use Rattle.mem_edge.proofs.Fated.{fated-injected, fated-sent, fated-send-failed}
 use Rattle.mem_edge.proofs.Opened.{is_open_from, sends_counted}
 use Rattle.mem_edge.proofs.Waiting.{injected_low, queued_is}
 use Rattle.mem_edge.proofs.Makings.{same_making}
+use Rattle.mem_edge.proofs.Patience.{more_lasts, same_lasts}
 use Rattle.mem_edge.proofs.memory_link.MemoryLinkLink.send.Goals as goal
 
 pub send-requires-clause-injected : goal.send-requires-clause-injected
@@ -74,3 +75,26 @@ invariant_of-self-in-Ok-send-clause-fated c = λ is_open.
     (s.fated is_open) (told_journal s.transit.tells (journal_in s.transit) (waiting_in s.transit)) not_named refl
     (c.in-Ok-send.ensures.told ∙ ap (λ (more : List (List ℕ)). told_more (told_in s.transit) (Sent c.args.datagram.now ∷ []) more)
     (queued_is c.sends-number.result c.copies-copies.result s.fates.items (injected_in s.transit) s.plan (sends_in (journal_in s.transit)) c.args.datagram.now c.at-held.result.now c.at-injected.result.now c.sends-number.ensures plan s.once c.copies-copies.ensures c.at-held.ensures c.at-injected.ensures)))
+
+-- it tells on
+pub returns-then-names-clause-link : goal.returns-then-names-clause-link
+returns-then-names-clause-link c =
+    let s = c.args.self.now in
+    record {
+      lasts = more_lasts _ _ SendFailed [] (λ n. refl) c.in-Ok.ensures.told;
+      opening = refl;
+      counted = omega arith;
+      making = same_making _ _ s.send_fails.items s.receive_fails.items s.open_fails c.in-Ok.ensures.injected;
+      opened = refl;
+    }
+
+pub returns-in-Ok-send-clause-link : goal.returns-in-Ok-send-clause-link
+returns-in-Ok-send-clause-link c =
+    let s = c.args.self.now in
+    record {
+      lasts = more_lasts _ _ (Sent c.args.datagram.now) _ (λ n. refl) c.in-Ok-send.ensures.told;
+      opening = refl;
+      counted = omega arith;
+      making = same_making _ _ s.send_fails.items s.receive_fails.items s.open_fails c.in-Ok-send.ensures.injected;
+      opened = refl;
+    }

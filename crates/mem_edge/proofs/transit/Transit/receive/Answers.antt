@@ -1,4 +1,4 @@
-use Rattle.std.proofs.Common.{◌≡◌, ℕ, List, length, sym, ap, ◌∙◌, subst, arith, Vec, vec_len}
+use Rattle.std.proofs.Common.{◌≡◌, ℕ, List, length, refl, sym, ap, ◌∙◌, subst, arith, Vec, vec_len}
 use Rattle.std.specs.declared.alloc.Global.{Global}
 use Rattle.std.specs.Vec.{with_items}
 use Rattle.std.proofs.lemmas.List.{length-map, with_items_is}
@@ -8,7 +8,7 @@ use Rattle.mem_edge.specs.declared.mark.Mark.{Mark}
 use Rattle.mem_edge.specs.declared.mark.Answer.TheVariants as answer
 use Rattle.mem_edge.specs.Transits.{datagram_in}
 use Rattle.mem_edge.specs.Marks.{entries, EndsInNothings, IsMarkWithin, IsWithin}
-use Rattle.mem_edge.proofs.Comes.{told_journal, waiting_taken, tells_got, tells_long}
+use Rattle.mem_edge.proofs.Comes.{none_told, told_journal, waiting_taken, tells_got, tells_long}
 use Rattle.mem_edge.proofs.Kept.{kept_empty, kept_got, kept_long, marked_more}
 use Rattle.mem_edge.proofs.transit.Transit.receive.Goals as goal
 
@@ -137,3 +137,15 @@ returns-then-len-into-clause-told c =
     tells_long s.tells _ _ _ _ _ _ c.args.into.now (c.note.ensures.entry (datagram_in s) s.first)
     (waiting_taken (datagram_in s) s.queue.items s.next c.index-place.result.now (omega arith) c.index-place.ensures)
     (omega (arith, ap (λ (l : List ℕ). length l) (rw (c.deref.ensures.value, c.deref-2.ensures.value) at c.datagram-datagram.ensures.value)))
+
+pub returns-then-not-count_nothing-clause-tells_on : goal.returns-then-not-count_nothing-clause-tells_on
+returns-then-not-count_nothing-clause-tells_on c = λ other. absurd (other refl)
+
+pub returns-else-not-count_nothing-clause-tells_on : goal.returns-else-not-count_nothing-clause-tells_on
+returns-else-not-count_nothing-clause-tells_on c = λ other. absurd (other refl)
+
+pub returns-then-len-into-clause-tells_on : goal.returns-then-len-into-clause-tells_on
+returns-then-len-into-clause-tells_on c = λ other none. none_told c.args.self.now.tells _ _ _ _ none
+
+pub returns-clause-tells_on : goal.returns-clause-tells_on
+returns-clause-tells_on c = λ other none. none_told c.args.self.now.tells _ _ _ _ none

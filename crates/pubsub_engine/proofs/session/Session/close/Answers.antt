@@ -53,8 +53,8 @@ returns c =
     let law = c.each_held_row_has_its_number.ensures in
     record {
       closed = λ p steps stands order. is-closed law.plain p steps s dones sets closed tells c.requires.session stands order;
-      whole = λ keeps few p steps stands order.
-          is-whole p steps s closed keeps few stands (is-closed law.plain p steps s dones sets closed tells c.requires.session stands order);
+      whole = λ keeps p steps stands order.
+          is-whole p steps s closed keeps stands (is-closed law.plain p steps s dones sets closed tells c.requires.session stands order);
       histories = λ few set threads low authored long.
           tells.histories.named few set threads (omega (arith, low, tells.count, passes-count s c.requires.session)) authored long;
       watches = λ order. tells.watches ∙ same-watches dones order;

@@ -17,9 +17,7 @@ pub returns : goal.returns
 returns c =
     let player = c.args.self in
     let e = c.close.ensures in
-    let script = c.requires.player.of_script in
-    let few = script.few in
     record {
       closes = player-closes player c.deref.result.now c.close.result c.requires.player
-          (subst (λ (l : List Done). AreDonesOf player.hands.items l) (sym c.deref.ensures.value) c.in_ok-dones.ensures.dones) (e.whole script.whole (omega (arith, few))) e.histories e.watches e.of;
+          (subst (λ (l : List Done). AreDonesOf player.hands.items l) (sym c.deref.ensures.value) c.in_ok-dones.ensures.dones) (e.whole c.requires.player.of_script.whole) e.histories e.watches e.of;
     }

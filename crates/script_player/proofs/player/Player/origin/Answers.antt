@@ -12,4 +12,4 @@ pub origin-requires : goal.origin-requires
 origin-requires c = record { session = c.requires.player.session; there = c.requires.there }
 
 pub returns-clause-origin : goal.returns-clause-origin
-returns-clause-origin c = let script = c.requires.player.of_script in let few = script.few in c.origin.ensures.whole script.whole (omega (arith, few))
+returns-clause-origin c = c.origin.ensures.whole c.requires.player.of_script.whole

@@ -2,7 +2,7 @@
 use std::alloc::{AllocError, AllocFailed};
 use ua_base::NoMemory;
 
-/// Why nothing is measured: the configuration isn't accepted or has no group, a sender is spent, or there is no memory.
+/// Why nothing is measured: a text isn't accepted, or it is of another shape, a sender is spent, or there is no memory.
 #[derive(Drop)]
 pub struct Unmeasured;
 
