@@ -15,3 +15,5 @@ pub mod TextOf
 pub mod Tells
 pub mod Writing
 pub mod Alone
+pub mod Places
+pub mod Seen

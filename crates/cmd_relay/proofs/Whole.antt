@@ -1,10 +1,11 @@
 -- The whole of what was relayed.
 use Rattle.std.proofs.Common.{◌≡◌, refl, sym, ap, ◌∙◌, subst, arith, ℕ, ◌<◌, Bool, true, List, [], ◌∷◌, length, reverse, Option, option_and_then}
+use Rattle.std.specs.Prelude.{IfSome}
 use Rattle.ua_base.specs.Journal.{Entry, LinkState}
 use Rattle.ps_config.specs.declared.parts.Config.{Config}
 use Rattle.ps_report.specs.declared.closed.Closed.{Closed}
 use Rattle.ps_report.specs.Conditions.{IsClosedOf}
-use Rattle.report_laws.specs.Numbers.{HasNumbers}
+use Rattle.report_laws.specs.Numbers.{HasNumbers, IsNumber}
 use Rattle.report_laws.specs.ReaderNames.{NamesReaders}
 use Rattle.ps_script.specs.declared.script.Script.{Script}
 use Rattle.ps_script.specs.Sound.{IsScript}
@@ -37,6 +38,7 @@ use Rattle.script_player.proofs.Finished.{RunsTellTheHeadline, is-closed-of, is-
 use Rattle.script_player.proofs.Headline.{HistoriesHaveRows}
 use Rattle.script_player.proofs.Levelling.{levelled-closed}
 use Rattle.cmd_relay.specs.declared.relaying.Relay.{Relay}
+use Rattle.cmd_relay.specs.Numbers.{GatewayHasNumbers}
 use Rattle.cmd_relay.specs.Relaying.{HasRelayed, IsRelayOf, RelaysEnd}
 use Rattle.cmd_relay.specs.Texts.{IsReaderText, IsTextOf, TextsOf, kept_by_index, relayed_line, store_held, versions_of}
 use Rattle.cmd_relay.proofs.Showing.{ShowsCollected}
@@ -78,6 +80,21 @@ text-kept first closed second all one other text good same is = record {
   text_is = is.text_is;
 }
 
+numbers-kept : (second : Config) (all : List Step) (one other : ℕ → List StoreVersion) → IsGood second → ((set : ℕ) → set < length second.dataset → one set ≡ other set)
+    → GatewayHasNumbers second all one → GatewayHasNumbers second all other
+numbers-kept second all one other good same has = record {
+  logs = has.logs;
+  readers = λ r i g w low matched.
+      let set = (writer_at (group_at second g) w).dataset in
+      let there : set < length second.dataset = ((sound-group second g good low).writers w no_writer matched.reads.within).dataset in
+      let its = has.readers r i g w low matched in
+      record {
+        number = its.number;
+        version = subst (λ (kept : List StoreVersion). IfSome (option_and_then (version_in kept) (store_held second all r i g w)) IsNumber) (same set there) its.version;
+        row = its.row;
+      };
+}
+
 -- ---- the end
 
 module _ (law : ShowsCollected) (rows : HistoriesHaveRows) (tells-all : RunsTellTheHeadline) (first second : Config) (script : Script) (scripts : IsScript first script) (plan : IsPlan (plan_by first script))
@@ -101,7 +118,9 @@ module _ (law : ShowsCollected) (rows : HistoriesHaveRows) (tells-all : RunsTell
       (is.0, led.0, led.1, is.1, led.2)
 
   module _ (lines : LinesLaw) (text : List ℕ) (told : (lived : List GatewayStep) → Stands second lived new.gateway
-      → IsTextOf first closed second (session_steps (sources_of new.gateway) lived) (kept_by_index (sources_of new.gateway) lived) text) where
+      → IsTextOf first closed second (session_steps (sources_of new.gateway) lived) (kept_by_index (sources_of new.gateway) lived) text)
+      (counted : (lived : List GatewayStep) → Stands second lived new.gateway
+      → GatewayHasNumbers second (session_steps (sources_of new.gateway) lived) (kept_by_index (sources_of new.gateway) lived)) where
     pub relayed : NamesReaders first → HasNumbers closed → IsRelayOf first second script lab_after wire_after text
     relayed names numbers =
         let all = samples_of (passes_of e.mid.session) in
@@ -144,6 +163,12 @@ module _ (law : ShowsCollected) (rows : HistoriesHaveRows) (tells-all : RunsTell
         subst (λ (l : List Step). IsTextOf first closed second l (versions_of p h.sources relay) text) seconds_are
         (text-kept first closed second (session_steps places lived) (kept_by_index places lived) (versions_of p h.sources relay) text again.good
         (λ set lt. lived-versions p places h.sources relay lived set (let c = h.indexes.count in omega (arith, lt, c)) lives) told_by) in
+        let counted_by : GatewayHasNumbers second (session_steps places lived) (kept_by_index places lived) =
+        subst (λ (l : List ℕ). GatewayHasNumbers second (session_steps l lived) (kept_by_index l lived)) f.sources (counted lived led.2) in
+        let has_numbers : GatewayHasNumbers second (seconds relay) (versions_of p h.sources relay) =
+        subst (λ (l : List Step). GatewayHasNumbers second l (versions_of p h.sources relay)) seconds_are
+        (numbers-kept second (session_steps places lived) (kept_by_index places lived) (versions_of p h.sources relay) again.good
+        (λ set lt. lived-versions p places h.sources relay lived set (let c = h.indexes.count in omega (arith, lt, c)) lives) counted_by) in
         record {
           closed = closed;
           play = played.0;
@@ -154,6 +179,7 @@ module _ (law : ShowsCollected) (rows : HistoriesHaveRows) (tells-all : RunsTell
           is_relay = is_relay;
           tells = subst (λ (l : List Step). TellsRun (plan_again second) l wire_after) seconds_are (led.3 h.tells);
           text_is = text_is;
+          numbers = has_numbers;
           gateway = lines p first second h.sources relay (row_written script) closed text is_relay
               (subst (λ (l : List Step). AreVersions p l (row_written script)) now_is played.0.lived.versions) text_is;
         }

@@ -4,3 +4,5 @@ pub mod Links
 pub mod Relaying
 pub mod Ends
 pub mod Telling
+pub mod Numbers
+pub mod Seen

@@ -31,6 +31,7 @@ use Rattle.script_player.specs.declared.player.Player.{Player}
 use Rattle.script_player.specs.Player.{Does, HasPlayed, IsPlayer, Levels, Passes, config_of}
 use Rattle.script_player.specs.Plays.{IsPlayOf, plan_by, row_written}
 use Rattle.cmd_relay.specs.declared.relaying.Relay.{Relay}
+use Rattle.cmd_relay.specs.Numbers.{GatewayHasNumbers}
 use Rattle.cmd_relay.specs.Telling.{TellsRelay}
 use Rattle.cmd_relay.specs.Texts.{IsTextOf, versions_of}
 
@@ -38,7 +39,7 @@ use Rattle.cmd_relay.specs.Texts.{IsTextOf, versions_of}
 
 -- A play of the script with the first configuration, and a gateway of the second that follows it, in which each data set has a source: behind each tick and pump of
 -- the session the gateway collects what its readers have stored, and has a tick of as many milliseconds, and a pump. Both links tell their journals, and the text tells
--- the play, and no other, and the gateway: what this publishes and holds is of the history that the script writes.
+-- the play, and no other, and the gateway: its numbers have 64 bits, and what it publishes and holds is of the history that the script writes.
 pub record IsRelayOf (first second : Config) (script : Script) (lab wire : Option LinkState) (text : List ℕ) : Type 0 where
   pub closed : Closed
   pub play : IsPlayOf first script lab closed
@@ -49,6 +50,7 @@ pub record IsRelayOf (first second : Config) (script : Script) (lab wire : Optio
   pub is_relay : IsRelay (plan_by first script) second sources relay
   pub tells : TellsRun (plan_again second) (seconds relay) wire
   pub text_is : IsTextOf first closed second (seconds relay) (versions_of (plan_by first script) sources relay) text
+  pub numbers : GatewayHasNumbers second (seconds relay) (versions_of (plan_by first script) sources relay)
   pub gateway : TellsRelay (plan_by first script) second sources relay (row_written script) text
 
 -- ---- a gateway follows the player

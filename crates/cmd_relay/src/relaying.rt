@@ -21,6 +21,7 @@ ghost use Rattle.cmd_relay.specs.Sources.{AreSourced};
 
 use crate::command::Accepted;
 use crate::laws::the_lines_of_a_gateway_tell_stores;
+use crate::numbers::gateways_have_numbers;
 use crate::text::text_of;
 use gateway_core::{Gateway, Ticked};
 use gateway_laws::passes_show_what_is_collected;
@@ -224,6 +225,7 @@ impl<'c> Relay<'c> {
         let closed = player.close(alloc)?;
         readers_are_told_by_their_names(&accepted.first);
         closed_sessions_have_numbers(&closed);
+        gateways_have_numbers(&accepted.second, &gateway);
         text_of(alloc, &accepted.first, &closed, &accepted.second, &gateway)
     }
 

@@ -40,8 +40,9 @@ use Rattle.gateway_core.specs.declared.collected.StoreVersion.{StoreVersion}
 use Rattle.gateway_core.specs.Lived.{plan_again}
 use Rattle.cmd_relay.specs.Telling.{seat_in}
 use Rattle.cmd_relay.specs.Texts.{IsReaderText, IsTextOf, IsWriterText, TextsOf, counts_text, gateway_line, held_as, link_line, link_text, reader_line, relayed_as, relayed_line, store_held, stored_text, version_held}
-use Rattle.text_laws.specs.Gateways.{AreGatewaysAlike, AreHeldAlike, AreRelayedAlike, AreStoredAlike, GatewayHasNumbers}
-use Rattle.text_laws.proofs.Places.{all-at, all-back, everywhere, read-group-there, writers-all}
+use Rattle.cmd_relay.specs.Numbers.{GatewayHasNumbers}
+use Rattle.text_laws.specs.Gateways.{AreGatewaysAlike, AreHeldAlike, AreRelayedAlike, AreStoredAlike}
+use Rattle.cmd_relay.proofs.Places.{all-at, all-back, everywhere, read-group-there, writers-all}
 
 -- ---- the line of a writer
 

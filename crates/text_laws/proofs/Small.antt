@@ -25,8 +25,8 @@ use Rattle.gateway_laws.specs.Telling.{HoldsTold}
 use Rattle.gateway_laws.specs.Witness.{again_config, again_set, first_source, its_sources, whole_relay}
 use Rattle.cmd_relay.specs.Telling.{seat_in}
 use Rattle.cmd_relay.specs.Texts.{store_held, version_held, versions_of}
-use Rattle.text_laws.specs.Gateways.{GatewayHasNumbers, RelayedHasNumbers}
-use Rattle.text_laws.proofs.Places.{read-group-there}
+use Rattle.cmd_relay.specs.Numbers.{GatewayHasNumbers, RelayedHasNumbers}
+use Rattle.cmd_relay.proofs.Places.{read-group-there}
 
 abbrev steps : List Step
 steps = seconds whole_relay

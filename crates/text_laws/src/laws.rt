@@ -12,7 +12,8 @@ ghost use Rattle.script_player.specs.Plays.{plan_by};
 ghost use Rattle.cmd_json.specs.Jsons.{IsJsonOf};
 ghost use Rattle.cmd_json.specs.Owned.{AreOwn};
 ghost use Rattle.cmd_relay.specs.Texts.{IsTextOf};
-ghost use Rattle.text_laws.specs.Gateways.{AreGatewaysAlike, GatewayHasNumbers};
+ghost use Rattle.cmd_relay.specs.Numbers.{GatewayHasNumbers};
+ghost use Rattle.text_laws.specs.Gateways.{AreGatewaysAlike};
 ghost use Rattle.text_laws.specs.Lines.{AreLinesAlike, IsOneLine};
 
 use json_frames::elements_are_read_one_way;

@@ -3,7 +3,7 @@ ghost use Rattle.session_laws.specs.Witness.{small_plan};
 ghost use Rattle.gateway_laws.specs.Relays.{seconds};
 ghost use Rattle.gateway_laws.specs.Witness.{again_config, its_sources, whole_relay};
 ghost use Rattle.cmd_relay.specs.Texts.{versions_of};
-ghost use Rattle.text_laws.specs.Gateways.{GatewayHasNumbers};
+ghost use Rattle.cmd_relay.specs.Numbers.{GatewayHasNumbers};
 
 use gateway_laws::a_small_relay_meets_the_premises;
 

@@ -47,6 +47,19 @@ text_of-requires-clause-closed g c =
     closed-of c.passes_show_what_is_collected.ensures c.histories_are_the_models.ensures.rows c.a_closed_session_tells_the_headline.ensures a.first a.second a.script c.requires.script
     c.requires.new.plan (is-plan a.second [] c.requires.second.0 c.requires.second.1 tt) _ _ _ _ c.play.new.self c.end.new.self h e c.in_ok-closed.closed c.in_ok-closed.ensures.closes
 
+pub gateways_have_numbers-requires : goal.gateways_have_numbers-requires
+gateways_have_numbers-requires g c =
+    let a = c.args.accepted.now in
+    let begun = c.requires.new.relayed _ _ c.requires.lab_empty c.requires.wire_empty in
+    let h = c.in_ok-play.ensures.relayed a.first a.second c.requires.script begun in
+    let e = c.in_ok-end.ensures.relays a.second (holds-relay a.first a.second a.script _ _ _ c.play.new.self h) in
+    record {
+      gateway = e.behind.gateway;
+      keeps = e.behind.keeps h.keeps;
+      config = config-of-gateway a.second _ c.end.new.self.gateway (e.behind.lives h.lived h.stands).2;
+      good = c.requires.second.0;
+    }
+
 pub text_of-requires-clause-second : goal.text_of-requires-clause-second
 text_of-requires-clause-second g c =
     let a = c.args.accepted.now in
@@ -69,7 +82,7 @@ returns-clause-text g c =
     IfOk-weaker c.text_of.result _ _
     (λ text told. relayed c.passes_show_what_is_collected.ensures c.histories_are_the_models.ensures.rows c.a_closed_session_tells_the_headline.ensures a.first a.second a.script c.requires.script
     c.requires.new.plan (is-plan a.second [] c.requires.second.0 c.requires.second.1 tt) _ _ _ _ c.play.new.self c.end.new.self h e c.in_ok-closed.closed c.in_ok-closed.ensures.closes
-    c.the_lines_of_a_gateway_tell_stores.ensures.text text.items told
+    c.the_lines_of_a_gateway_tell_stores.ensures.text text.items told c.gateways_have_numbers.ensures
     c.readers_are_told_by_their_names.ensures c.closed_sessions_have_numbers.ensures) c.text_of.ensures
 
 -- so many answers Nothing come at most

@@ -5,8 +5,8 @@ use Rattle.gateway_core.specs.Lived.{plan_again, session_steps}
 use Rattle.gateway_core.specs.Holding.{logged_of, sources_of}
 use Rattle.cmd_relay.specs.Texts.{kept_by_index}
 use Rattle.cmd_relay.proofs.Lining.{whole-log}
-use Rattle.text_laws.specs.Seen.{HasVersion}
-use Rattle.text_laws.proofs.numbers.see_writer.Goals as goal
+use Rattle.cmd_relay.specs.Seen.{HasVersion}
+use Rattle.cmd_relay.proofs.numbers.see_writer.Goals as goal
 
 pub returns : goal.returns
 returns c = λ second lived stands.

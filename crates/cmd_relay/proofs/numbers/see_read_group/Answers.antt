@@ -6,9 +6,9 @@ use Rattle.gateway_core.specs.Lived.{session_steps}
 use Rattle.gateway_core.specs.Holding.{sources_of}
 use Rattle.pubsub_engine.proofs.Places.{few-readers, first-most}
 use Rattle.cmd_relay.proofs.Matched.{all-more, read-at}
-use Rattle.text_laws.specs.Seen.{ReaderIsSeen}
-use Rattle.text_laws.proofs.Seen.{reader-seen}
-use Rattle.text_laws.proofs.numbers.see_read_group.Goals as goal
+use Rattle.cmd_relay.specs.Seen.{ReaderIsSeen}
+use Rattle.cmd_relay.proofs.Seen.{reader-seen}
+use Rattle.cmd_relay.proofs.numbers.see_read_group.Goals as goal
 
 pub overflow_cast-i : goal.overflow_cast-i
 overflow_cast-i c =

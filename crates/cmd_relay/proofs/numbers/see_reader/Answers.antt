@@ -1,8 +1,8 @@
 use Rattle.std.proofs.Common.{ℕ, Option, subst}
 use Rattle.std.specs.Prelude.{IfSome}
 use Rattle.report_laws.specs.Numbers.{IsNumber}
-use Rattle.text_laws.proofs.Seen.{row-fits}
-use Rattle.text_laws.proofs.numbers.see_reader.Goals as goal
+use Rattle.cmd_relay.proofs.Seen.{row-fits}
+use Rattle.cmd_relay.proofs.numbers.see_reader.Goals as goal
 
 pub returns-clause-number : goal.returns-clause-number
 returns-clause-number c = λ fields. subst (λ (o : Option ℕ). IfSome o IsNumber) (c.number.ensures fields) c.see_number.ensures

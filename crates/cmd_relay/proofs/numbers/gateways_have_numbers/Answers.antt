@@ -1,8 +1,8 @@
 use Rattle.gateway_core.specs.Lived.{session_steps}
 use Rattle.gateway_core.specs.Holding.{sources_of}
 use Rattle.cmd_relay.specs.Texts.{kept_by_index}
-use Rattle.text_laws.proofs.Seen.{gateway-seen}
-use Rattle.text_laws.proofs.numbers.gateways_have_numbers.Goals as goal
+use Rattle.cmd_relay.proofs.Seen.{gateway-seen}
+use Rattle.cmd_relay.proofs.numbers.gateways_have_numbers.Goals as goal
 
 pub returns : goal.returns
 returns c = λ lived stands.

@@ -24,9 +24,9 @@ use Rattle.session_model.specs.Steps.{Step}
 use Rattle.session_laws.proofs.Versions.Telling.{writer-index}
 use Rattle.gateway_core.specs.declared.collected.StoreVersion.{StoreVersion}
 use Rattle.gateway_core.specs.Lived.{plan_again, version_in}
-use Rattle.text_laws.specs.Gateways.{GatewayHasNumbers}
-use Rattle.text_laws.specs.Seen.{HasVersion, LogIsSeen, ReaderIsSeen}
-use Rattle.text_laws.proofs.Places.{all-back, read-group-there}
+use Rattle.cmd_relay.specs.Numbers.{GatewayHasNumbers}
+use Rattle.cmd_relay.specs.Seen.{HasVersion, LogIsSeen, ReaderIsSeen}
+use Rattle.cmd_relay.proofs.Places.{all-back, read-group-there}
 
 -- ---- a reader
 

@@ -5,8 +5,8 @@ use Rattle.gateway_core.specs.Lived.{GatewayStep, session_steps}
 use Rattle.gateway_core.specs.Holding.{sources_of}
 use Rattle.gateway_core.specs.Standing.{Stands}
 use Rattle.cmd_relay.specs.Texts.{kept_by_index}
-use Rattle.text_laws.specs.Seen.{LogIsSeen}
-use Rattle.text_laws.proofs.numbers.see_groups.Given as goal
+use Rattle.cmd_relay.specs.Seen.{LogIsSeen}
+use Rattle.cmd_relay.proofs.numbers.see_groups.Given as goal
 
 abbrev pub invariant-loop-g : goal.invariant-loop-g
 invariant-loop-g l = (lived : List GatewayStep) → Stands l.second lived l.gateway → (g w : ℕ) → g < l.g → w < length (group_at l.second g).writer

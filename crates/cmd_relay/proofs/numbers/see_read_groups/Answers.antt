@@ -3,8 +3,8 @@ use Rattle.reader_group.specs.Settings.{group_at as read_group_at}
 use Rattle.gateway_core.specs.Lived.{session_steps}
 use Rattle.gateway_core.specs.Holding.{sources_of}
 use Rattle.cmd_relay.proofs.Matched.{all-more}
-use Rattle.text_laws.specs.Seen.{ReaderIsSeen}
-use Rattle.text_laws.proofs.numbers.see_read_groups.Goals as goal
+use Rattle.cmd_relay.specs.Seen.{ReaderIsSeen}
+use Rattle.cmd_relay.proofs.numbers.see_read_groups.Goals as goal
 
 pub loop-r-preserved : goal.loop-r-preserved
 loop-r-preserved c = λ lived stands r i low within.

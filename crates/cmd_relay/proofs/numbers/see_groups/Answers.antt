@@ -6,8 +6,8 @@ use Rattle.gateway_core.specs.Lived.{session_steps}
 use Rattle.gateway_core.specs.Holding.{sources_of}
 use Rattle.cmd_relay.specs.Texts.{kept_by_index}
 use Rattle.cmd_relay.proofs.Matched.{all-more}
-use Rattle.text_laws.specs.Seen.{LogIsSeen}
-use Rattle.text_laws.proofs.numbers.see_groups.Goals as goal
+use Rattle.cmd_relay.specs.Seen.{LogIsSeen}
+use Rattle.cmd_relay.proofs.numbers.see_groups.Goals as goal
 
 pub loop-g-preserved : goal.loop-g-preserved
 loop-g-preserved c = λ lived stands g w low within.

@@ -5,8 +5,8 @@ use Rattle.gateway_core.specs.Lived.{GatewayStep, session_steps}
 use Rattle.gateway_core.specs.Holding.{sources_of}
 use Rattle.gateway_core.specs.Standing.{Stands}
 use Rattle.cmd_relay.specs.Texts.{kept_by_index}
-use Rattle.text_laws.specs.Seen.{LogIsSeen}
-use Rattle.text_laws.proofs.numbers.see_group.Given as goal
+use Rattle.cmd_relay.specs.Seen.{LogIsSeen}
+use Rattle.cmd_relay.proofs.numbers.see_group.Given as goal
 
 abbrev pub invariant-loop-w : goal.invariant-loop-w
 invariant-loop-w l = (lived : List GatewayStep) → Stands l.second lived l.gateway → (w : ℕ) → w < l.w

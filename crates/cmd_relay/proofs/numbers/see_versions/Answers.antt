@@ -5,8 +5,8 @@ use Rattle.report_laws.specs.Numbers.{IsNumber}
 use Rattle.report_laws.proofs.Seeing.{all_seen}
 use Rattle.gateway_core.specs.Holding.{sources_of}
 use Rattle.cmd_relay.specs.Texts.{kept_by_index}
-use Rattle.text_laws.specs.Seen.{HasVersion}
-use Rattle.text_laws.proofs.numbers.see_versions.Goals as goal
+use Rattle.cmd_relay.specs.Seen.{HasVersion}
+use Rattle.cmd_relay.proofs.numbers.see_versions.Goals as goal
 
 pub loop-entry-preserved : goal.loop-entry-preserved
 loop-entry-preserved c = λ second lived stands.

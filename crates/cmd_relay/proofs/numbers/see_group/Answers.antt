@@ -8,8 +8,8 @@ use Rattle.gateway_core.specs.Holding.{sources_of}
 use Rattle.session_parts.proofs.Few.{few-writers}
 use Rattle.cmd_relay.specs.Texts.{kept_by_index}
 use Rattle.cmd_relay.proofs.Matched.{all-more, group-read, read-at}
-use Rattle.text_laws.specs.Seen.{LogIsSeen}
-use Rattle.text_laws.proofs.numbers.see_group.Goals as goal
+use Rattle.cmd_relay.specs.Seen.{LogIsSeen}
+use Rattle.cmd_relay.proofs.numbers.see_group.Goals as goal
 
 pub overflow_cast-w : goal.overflow_cast-w
 overflow_cast-w c =

@@ -13,8 +13,8 @@ ghost use Rattle.gateway_core.specs.Holding.{IsGateway, KeepsAll};
 ghost use Rattle.gateway_core.specs.Lived.{GatewayStep};
 ghost use Rattle.gateway_core.specs.Standing.{Stands};
 ghost use Rattle.cmd_relay.specs.Texts.{IsGatewayOf, config_of, kept_of, steps_of};
-ghost use Rattle.text_laws.specs.Gateways.{GatewayHasNumbers};
-ghost use Rattle.text_laws.specs.Seen.{HasVersion, LogIsSeen, ReaderIsSeen};
+ghost use Rattle.cmd_relay.specs.Numbers.{GatewayHasNumbers};
+ghost use Rattle.cmd_relay.specs.Seen.{HasVersion, LogIsSeen, ReaderIsSeen};
 
 use dataset_reader::Reader;
 use gateway_core::Gateway;
