@@ -25,8 +25,8 @@ pub fn matched_readers_are_told()
 /// this writer answered at its turns, with the numbers of the places that it gave; and what a reader that is matched to the writer
 /// keeps of it is what *Records* says of just these answers, at these places.
 pub fn lines_have_their_writers_frames()
-    ensures { (p : Plan) (steps : List Step) (told : Option LinkState) (parts : List Part) → IsPlan p
-        → AreSteps p steps → IsRun p steps → SamplesRise p steps → TellsRun p steps told
+    ensures { (p : Plan) (steps : List Step) (told : Option LinkState) (parts : List Part)
+        → IsPlan p → AreSteps p steps → IsRun p steps → SamplesRise p steps → TellsRun p steps told
         → ReadsSent p.config told parts → ((reader : ReaderPart) → HasRecords p.config parts reader)
         → IsSome told → AreOwn p steps parts }
 {

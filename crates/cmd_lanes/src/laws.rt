@@ -15,8 +15,9 @@ ghost use Rattle.cmd_lanes.specs.Texts.{Logs, lanes_text};
 /// Of a script that lanes take, the publisher does at the ticks of the lanes what it does in a play of the script, whatever becomes
 /// of the play's sends and whatever its pumps receive. So lanes send the datagrams of a play, group by group, and log the same.
 pub fn lanes_do_what_a_play_does()
-    ensures { (config : Config) (script : Script) (earlier steps : List Step) (looks : List WatchEnd)
-        → refusal script ≡ None → IsPlayed (plan_by config script) (reverse script.lines) earlier looks
+    ensures { (config : Config) (script : Script) (earlier steps : List Step)
+        (looks : List WatchEnd) → refusal script ≡ None
+        → IsPlayed (plan_by config script) (reverse script.lines) earlier looks
         → IsTickedBy (plan_by config script) (reverse script.lines) 0 true earlier steps
         → deeds (plan_by config script) steps ≡ deeds (plan_by config script) (ticks_of script) }
 {}

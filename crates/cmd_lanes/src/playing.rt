@@ -34,7 +34,8 @@ pub fn play_lanes<R: Threads + Wait + Sync, L: Link, G: Gate>(
     requires script { IsScript config.now script.now }
     requires taken { refusal script.now ≡ None }
     requires room { 0 < room }
-    ensures text { IfOk result (λ text. IsLanesOf config.now script.now (L.told link.new) text.items) }
+    ensures text { IfOk result (λ text.
+        IsLanesOf config.now script.now (L.told link.new) text.items) }
     ensures over { PerformsOver L.told L.patience L.opened_with L.faults L.made L.openings
         (opening_of config.now script.now) (IsOk result) (result ≡ Err PlayEnd.Unopened)
         link.old link.new }

@@ -45,7 +45,8 @@ fn put_groups(out: &mut Vec<u8>, config: &Config, ran: &Ran) -> Result<(), NoMem
         ++ flat_map (group_lines config.now (counts_of ran.now) (logs_by config.now deeds))
         (group_indexes config.now)) }
     ensures numbers { (deeds : List Deed) → StandAll config.now deeds ran.now.lanes.items
-        → OnOk result (GroupsHaveNumbers config.now (counts_of ran.now) (logs_by config.now deeds)) }
+        → OnOk result
+        (GroupsHaveNumbers config.now (counts_of ran.now) (logs_by config.now deeds)) }
 {
     let parts = config.group.as_slice();
     for g in 0..parts.len() {

@@ -56,8 +56,8 @@ fn summary_of<R: Threads + Wait + Sync, A: Link, G: Gate>(
 ) -> Result<Vec<u8>, PlayEnd>
     requires least { 1 ≤ n }
     requires most { n ≤ 1024 }
-    ensures summary { IfOk result (λ text.
-        Summarizes n (wire_of A.told A.patience A.faults A.opened_with A.made A.openings lab.new) text.items) }
+    ensures summary { IfOk result (λ text. Summarizes n
+        (wire_of A.told A.patience A.faults A.opened_with A.made A.openings lab.new) text.items) }
     ensures link { UsesLink (OpensForWork n) (result ≡ Err PlayEnd.Unopened) (IsOk result)
         (wire_of A.told A.patience A.faults A.opened_with A.made A.openings lab.old)
         (wire_of A.told A.patience A.faults A.opened_with A.made A.openings lab.new) }
@@ -85,8 +85,8 @@ fn work_summary<R: Threads + Wait + Sync, A: Link, G: Gate>(
     requires good { IsGood config.now }
     requires types { HasTypes config.now }
     requires work { IsScript config.now script.now }
-    ensures summary { IfOk result (λ text.
-        Summarizes n (wire_of A.told A.patience A.faults A.opened_with A.made A.openings lab.new) text.items) }
+    ensures summary { IfOk result (λ text. Summarizes n
+        (wire_of A.told A.patience A.faults A.opened_with A.made A.openings lab.new) text.items) }
     ensures link { UsesLink (OpensForWork n) (result ≡ Err PlayEnd.Unopened) (IsOk result)
         (wire_of A.told A.patience A.faults A.opened_with A.made A.openings lab.old)
         (wire_of A.told A.patience A.faults A.opened_with A.made A.openings lab.new) }

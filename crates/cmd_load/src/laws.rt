@@ -10,8 +10,11 @@ ghost use Rattle.cmd_load.specs.Newest.{newest_row};
 /// has the row of each thread's last write.
 pub fn generated_work_ends_with_one_row()
     ensures ticks { (n : ℕ) → ticks_in (generated n).lines ≡ 4 * n }
-    ensures versions { (n : ℕ) (threads : List ℕ) → n ≤ 1024 → IsLegal threads (writes_to (generated n) 0)
+    ensures versions { (n : ℕ) (threads : List ℕ) → n ≤ 1024
+        → IsLegal threads (writes_to (generated n) 0)
         → length threads ≡ 32 * n }
-    ensures newest { (n : ℕ) (threads : List ℕ) → 1 ≤ n → n ≤ 1024 → IsLegal threads (writes_to (generated n) 0)
-        → row_of (fields_in (generated n) 0) (history_by (generated n) 0 threads) (32 * n) ≡ newest_row n }
+    ensures newest { (n : ℕ) (threads : List ℕ) → 1 ≤ n → n ≤ 1024
+        → IsLegal threads (writes_to (generated n) 0)
+        → row_of (fields_in (generated n) 0) (history_by (generated n) 0 threads) (32 * n)
+        ≡ newest_row n }
 {}

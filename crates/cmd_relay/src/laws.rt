@@ -33,10 +33,12 @@ pub fn the_lines_of_a_gateway_tell_stores()
         → AreVersions p (firsts relay) rows → w < length (group_at second g).writer
         → IsWriterText second (seconds relay) (g, w) line
         → TellsStores p second sources relay rows g w line }
-    ensures waits { (second : Config) (steps : List Step) (kept : ℕ → List StoreVersion) (r i g w : ℕ) (line : List ℕ)
-        → g < length second.group → IsMatchedIn second r i g w → IsReaderText second steps kept (r, i) line
+    ensures waits { (second : Config) (steps : List Step) (kept : ℕ → List StoreVersion)
+        (r i g w : ℕ) (line : List ℕ) → g < length second.group
+        → IsMatchedIn second r i g w → IsReaderText second steps kept (r, i) line
         → (reader_at second r i steps).kept.row ≡ None
-        → line ≡ line_of (seat_in second r i).part.name (waits_text (reader_at second r i steps).kept.why) }
+        → line ≡ line_of (seat_in second r i).part.name
+        (waits_text (reader_at second r i steps).kept.why) }
     ensures held { (p : Plan) (second : Config) (sources : List Source) (relay : List RelayStep)
         (rows : ℕ → ℕ → List DataValue) (r i g w : ℕ) (row : List DataValue) (line : List ℕ)
         → IsRelay p second sources relay → AreVersions p (firsts relay) rows
@@ -44,8 +46,8 @@ pub fn the_lines_of_a_gateway_tell_stores()
         → IsReaderText second (seconds relay) (versions_of p sources relay) (r, i) line
         → (reader_at second r i (seconds relay)).kept.row ≡ Some row
         → TellsHeld p second sources relay rows r i g w row line }
-    ensures text { (p : Plan) (first second : Config) (sources : List Source) (relay : List RelayStep)
-        (rows : ℕ → ℕ → List DataValue) (closed : Closed) (text : List ℕ)
+    ensures text { (p : Plan) (first second : Config) (sources : List Source)
+        (relay : List RelayStep) (rows : ℕ → ℕ → List DataValue) (closed : Closed) (text : List ℕ)
         → IsRelay p second sources relay → AreVersions p (firsts relay) rows
         → IsTextOf first closed second (seconds relay) (versions_of p sources relay) text
         → TellsRelay p second sources relay rows text }
@@ -58,7 +60,8 @@ pub fn the_lines_of_a_gateway_tell_stores()
 /// The text of a relay tells one first session: two that have the same text, whatever the gateways did, are told alike.
 pub fn a_text_of_a_relay_tells_one_session()
     ensures { (first second : Config) (one other : Closed) (steps others : List Step)
-        (kept stores : ℕ → List StoreVersion) (text : List ℕ) → IsReported first one → IsReported first other
+        (kept stores : ℕ → List StoreVersion) (text : List ℕ)
+        → IsReported first one → IsReported first other
         → IsTextOf first one second steps kept text → IsTextOf first other second others stores text
         → AreToldAlike one other }
 {}

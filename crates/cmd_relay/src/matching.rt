@@ -38,7 +38,8 @@ fn writer_in(
     requires few { length group.now.writer ≤ 16 }
     requires within { index < length readers.now.reader }
     ensures reads { IfSome result (λ w. IsMatchedTo config.now readers.now index group.now w) }
-    ensures none { result ≡ None → (w : ℕ) → ¬ IsMatchedTo config.now readers.now index group.now w }
+    ensures none { result ≡ None
+        → (w : ℕ) → ¬ IsMatchedTo config.now readers.now index group.now w }
 {
     if !is_matched(config, group, readers) {
         return None;

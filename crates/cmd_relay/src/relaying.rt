@@ -130,7 +130,8 @@ fn open_again<L: Link>(link: &mut L, second: &Config) -> Result<(), PlayEnd>
     ensures making { L.made link.new ≡ L.made link.old }
     ensures counted { L.openings link.new ≡ counted_if (is_ok result) (L.openings link.old) }
     ensures lasts { TellsOn L.told L.patience 0 link.old link.new }
-    ensures unopened { result ≡ Err PlayEnd.Unopened → Rose (L.faults link.old) (L.faults link.new) }
+    ensures unopened { result ≡ Err PlayEnd.Unopened
+        → Rose (L.faults link.old) (L.faults link.new) }
     ensures faults { L.faults link.old ≤ L.faults link.new }
 {
     open_link(link, second.publisher.port, &[])
@@ -147,7 +148,8 @@ fn open_link<L: Link>(link: &mut L, port: u16, fates: &[(u64, Fate)]) -> Result<
     ensures making { L.made link.new ≡ L.made link.old }
     ensures counted { L.openings link.new ≡ counted_if (is_ok result) (L.openings link.old) }
     ensures lasts { TellsOn L.told L.patience 0 link.old link.new }
-    ensures unopened { result ≡ Err PlayEnd.Unopened → Rose (L.faults link.old) (L.faults link.new) }
+    ensures unopened { result ≡ Err PlayEnd.Unopened
+        → Rose (L.faults link.old) (L.faults link.new) }
     ensures faults { L.faults link.old ≤ L.faults link.new }
 {
     match link.open(port, fates) {

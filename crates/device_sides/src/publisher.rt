@@ -249,7 +249,8 @@ impl Publisher {
         ensures no_earlier { OnTrue result (¬ IsEarlier now token (key_sets ring)) }
         ensures not { OnFalse result (self.new ≡ self.old) }
         ensures refused { OnFalse result
-            (IsEarlier now token (key_sets ring) ⊎ MayNotResume keygroup now used (key_sets ring) self.old) }
+            (IsEarlier now token (key_sets ring)
+            ⊎ MayNotResume keygroup now used (key_sets ring) self.old) }
     {
         if ring.at(now).token < token {
             return false;

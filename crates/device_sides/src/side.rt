@@ -230,7 +230,8 @@ fn refresh_if(group: &mut Group, writer: u8, on: bool)
     requires { writer < writer_count group.old }
     ensures come_on { HasComeOn writer on group.old group.new }
     ensures index { index_of group.new ≡ index_of group.old }
-    ensures keeps_to { (config : ConfigValue) → KeepsTo config group.old → KeepsTo config group.new }
+    ensures keeps_to { (config : ConfigValue)
+        → KeepsTo config group.old → KeepsTo config group.new }
 {
     if on {
         group.refresh(writer);

@@ -223,7 +223,8 @@ fn word_in(
     requires listening { IsListening config.now listening.now }
     ensures word { IfOk result (λ word.
         ReaderKeeps config.now reader (HasFieldValue field (scalar_in kind word)) listening.now) }
-    ensures kind { IfOk result (λ word. ReaderKeeps config.now reader (IsOfKind field kind) listening.now) }
+    ensures kind { IfOk result (λ word.
+        ReaderKeeps config.now reader (IsOfKind field kind) listening.now) }
     ensures none { IfErr result (λ none.
         IsUntold (IsOfOtherKind field kind) config.now reader field none listening.now) }
 {

@@ -229,11 +229,13 @@ impl<'c> Gateway<'c> {
         ensures first { (second : ConfigValue) (lived : List GatewayStep)
             → Stands second lived self.now
             → let source = slice_index_or (sources_of self.now) set 0 in
-            result ≡ version_in (first_kept (logged_of self.now) (versions_kept source lived)) store }
+            result ≡ version_in
+            (first_kept (logged_of self.now) (versions_kept source lived)) store }
         ensures lives { (second : ConfigValue) (lived : List GatewayStep) (life : List Lived)
             → StandsIn second lived life self.now
             → let source = slice_index_or (sources_of self.now) set 0 in
-            result ≡ version_in (first_kept (logged_of self.now) (versions_kept source lived)) store }
+            result ≡ version_in
+            (first_kept (logged_of self.now) (versions_kept source lived)) store }
         ensures all { KeepsAll self.now → (second : ConfigValue) (lived : List GatewayStep)
             → Stands second lived self.now
             → let source = slice_index_or (sources_of self.now) set 0 in

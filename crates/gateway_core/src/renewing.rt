@@ -23,7 +23,8 @@ impl Gateway<'_> {
     pub fn renew(&mut self, key_group: u8, ring: Ring) -> bool
         requires gateway { IsGateway self.old }
         requires there { key_group < length self.old.config.now.keygroup }
-        requires long { is_long_ring ring ≡ is_long (keygroup_at self.old.config.now key_group).policy }
+        requires long { is_long_ring ring
+            ≡ is_long (keygroup_at self.old.config.now key_group).policy }
         ensures gateway { IsGateway self.new }
         ensures kept { (second : ConfigValue) (lived : List GatewayStep) (life : List Lived)
             → StandsIn second lived life self.old → IsTrue result

@@ -22,7 +22,8 @@ use session_parts::{Tally, link_end};
 impl Gateway<'_> {
     /// Milliseconds since it was opened: the sum of what its ticks took.
     pub fn moment(&self) -> u64
-        ensures stands { (second : ConfigValue) (lived : List GatewayStep) → Stands second lived self.now
+        ensures stands { (second : ConfigValue) (lived : List GatewayStep)
+            → Stands second lived self.now
             → result ≡ moment_of (steps_of self.now lived) }
         ensures lives { (second : ConfigValue) (lived : List GatewayStep) (life : List Lived)
             → StandsIn second lived life self.now
@@ -35,7 +36,8 @@ impl Gateway<'_> {
     pub fn state(&self, component: Component) -> State
         requires gateway { IsGateway self.now }
         requires there { IsAmong (counts_of self.now.config.now) component }
-        ensures stands { (second : ConfigValue) (lived : List GatewayStep) → Stands second lived self.now
+        ensures stands { (second : ConfigValue) (lived : List GatewayStep)
+            → Stands second lived self.now
             → result ≡ state_at (plan_again second) (steps_of self.now lived) component }
         ensures lives { (second : ConfigValue) (lived : List GatewayStep) (life : List Lived)
             → StandsIn second lived life self.now
@@ -48,18 +50,21 @@ impl Gateway<'_> {
     pub fn tally(&self, read_group: u8) -> Tally
         requires gateway { IsGateway self.now }
         requires there { read_group < length self.now.config.now.readgroup }
-        ensures stands { (second : ConfigValue) (lived : List GatewayStep) → Stands second lived self.now
+        ensures stands { (second : ConfigValue) (lived : List GatewayStep)
+            → Stands second lived self.now
             → IsTallyOf (answers_at second read_group (steps_of self.now lived)) result }
         ensures lives { (second : ConfigValue) (lived : List GatewayStep) (life : List Lived)
             → StandsIn second lived life self.now
-            → IsTallyOf ((account_in (plan_again second) life).readings read_group).answered result }
+            → IsTallyOf
+            ((account_in (plan_again second) life).readings read_group).answered result }
     {
         self.round.subscriber.tallies[usize::from(read_group)]
     }
 
     /// What came of all sends and receives over the link.
     pub fn link(&self) -> LinkEnd
-        ensures stands { (second : ConfigValue) (lived : List GatewayStep) → Stands second lived self.now
+        ensures stands { (second : ConfigValue) (lived : List GatewayStep)
+            → Stands second lived self.now
             → result ≡ link_end (plan_again second) (steps_of self.now lived) }
         ensures lives { (second : ConfigValue) (lived : List GatewayStep) (life : List Lived)
             → StandsIn second lived life self.now
@@ -73,7 +78,8 @@ impl Gateway<'_> {
     pub fn standing(&self, key_group: u8) -> (u32, u32)
         requires gateway { IsGateway self.now }
         requires there { key_group < length self.now.config.now.keygroup }
-        ensures stands { (second : ConfigValue) (lived : List GatewayStep) → Stands second lived self.now
+        ensures stands { (second : ConfigValue) (lived : List GatewayStep)
+            → Stands second lived self.now
             → result ≡ standing_at (plan_again second) (steps_of self.now lived) key_group }
         ensures lives { (second : ConfigValue) (lived : List GatewayStep) (life : List Lived)
             → StandsIn second lived life self.now

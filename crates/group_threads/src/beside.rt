@@ -84,7 +84,8 @@ pub(crate) fn run_beside<
         rt,
         move |scope| -> Result<(Vec<Hand<M>>, B), C>
             requires { IsSync R.row × (turns ≤ M.turn_count work.now)
-                × AreAtStart (IsPassOf queue.now) (M.may_turn work.now 0) hands.items × T.can_run task }
+                × AreAtStart (IsPassOf queue.now) (M.may_turn work.now 0) hands.items
+                × T.can_run task }
             ensures { MatchResult result (λ both. AreAtEnd (IsPassOf queue.entry.now) M.made M.turns
                 work.entry.now turns hands.items both.0.items × T.run_gives task both.1)
                 (T.holds task) }

@@ -51,7 +51,8 @@ impl Book {
 
     fn keep(&mut self, line: Option<JsonLine>)
         requires { vec_len self.old.lines < vec_capacity self.old.lines }
-        ensures { Keeps line self.old.lines.items self.new.lines.items self.old.skipped self.new.skipped }
+        ensures { Keeps line
+            self.old.lines.items self.new.lines.items self.old.skipped self.new.skipped }
     {
         match line {
             Some(line) => self.lines.push_reserved(line),

@@ -65,8 +65,8 @@ fn message_in(
     payload: &[u8],
 ) -> Result<Option<JsonMessage>, NoMemory>
     requires { AreIds (ids_in header.now.ids) }
-    ensures { IfOk result (λ found.
-        IsMessageIf config.now number found (message_in config.now (header_in header.now) payload.now)) }
+    ensures { IfOk result (λ found. IsMessageIf config.now number found
+        (message_in config.now (header_in header.now) payload.now)) }
 {
     if header.security.is_some() {
         return Ok(None);
@@ -130,7 +130,8 @@ fn parts_at(
     requires count { length ids.now ≡ 2 * length places.now }
     requires within { All (IsWithin payload.now) places.now }
     ensures { IfOk result (λ found. ArePartsIf config.now found
-        (all_of (map (part_of config.now) (zip (ids_of ids.now) (map (frame_at payload.now) places.now))))) }
+        (all_of (map (part_of config.now)
+        (zip (ids_of ids.now) (map (frame_at payload.now) places.now))))) }
 {
     let mut parts = Vec::new(alloc);
     for index in 0..places.len() {

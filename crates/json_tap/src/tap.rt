@@ -145,7 +145,8 @@ impl<L: Link, M: Made> Link for Tap<'_, L, M> {
 
         ensures entry { Tells (L.told (link_of self.old)) (L.told (link_of self.new))
             (Sends datagram.now result) }
-        ensures waiting { Tells (L.told (link_of self.old)) (L.told (link_of self.new)) (Queues result) }
+        ensures waiting { Tells (L.told (link_of self.old)) (L.told (link_of self.new))
+            (Queues result) }
         ensures link { KeepsLink (λ t. L.told (link_of t)) (λ t. L.patience (link_of t))
             (λ t. opened_if (is_open t) (L.opened_with (link_of t)))
             (λ t. L.faults (link_of t)) (λ t. L.made (link_of t)) (λ t. L.openings (link_of t))

@@ -56,10 +56,12 @@ fn mark_changed(meta: &Meta, index: u8, old: &Row, new: &Row, patch: &mut Patch)
     requires index { index < length meta.now.fields }
     requires of { IsPatchOf meta.now patch.old }
     requires marked { patch_in meta.now.fields patch.old
-        ≡ changes_upto index (row_in meta.now.fields old.now.words) (row_in meta.now.fields new.now.words) }
+        ≡ changes_upto index
+        (row_in meta.now.fields old.now.words) (row_in meta.now.fields new.now.words) }
     ensures of { IsPatchOf meta.now patch.new }
     ensures marked { patch_in meta.now.fields patch.new
-        ≡ changes_upto (index + 1) (row_in meta.now.fields old.now.words) (row_in meta.now.fields new.now.words) }
+        ≡ changes_upto (index + 1)
+        (row_in meta.now.fields old.now.words) (row_in meta.now.fields new.now.words) }
 {
     if differs_at(meta, index, old, new) {
         patch.mark(meta, index, new);

@@ -44,8 +44,10 @@ pub(crate) fn passed(meta: &Meta, old: &Row, new: &Row, from: usize) -> usize
     requires from { from < length meta.now.fields }
     ensures within { result ≤ length meta.now.fields }
     ensures ahead { from ≤ result }
-    ensures same { changes_upto result (row_in meta.now.fields old.now.words) (row_in meta.now.fields new.now.words)
-        ≡ changes_upto from (row_in meta.now.fields old.now.words) (row_in meta.now.fields new.now.words) }
+    ensures same { changes_upto result
+        (row_in meta.now.fields old.now.words) (row_in meta.now.fields new.now.words)
+        ≡ changes_upto from
+        (row_in meta.now.fields old.now.words) (row_in meta.now.fields new.now.words) }
 {
     prove!(!meta.fields().is_empty());
     if !meta.quality() {

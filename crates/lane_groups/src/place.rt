@@ -97,7 +97,8 @@ impl Place {
         ensures has { (g : ℕ) (deeds : List Deed) → IsPlaceOf told.now.config.now g self.now
             → HasPast told.now.config.now deeds g self.now
             → sender.now ≡ sender_of told.now.config.now g deeds
-            → result ≡ has_turn (plan_of told.now.config.now) [] told.now.moment told.now.closing deeds g }
+            → result ≡ has_turn (plan_of told.now.config.now) []
+            told.now.moment told.now.closing deeds g }
     {
         if is_spent(sender) {
             return false;

@@ -191,7 +191,8 @@ impl Link for MemoryLink {
             (faults_of self.old) (faults_of self.new) (result ≡ Opened.Failed) }
         ensures lasts { TellsOn told_by patience_of 0 self.old self.new }
         ensures making { made_by self.new ≡ made_by self.old }
-        ensures counted { openings_of self.new ≡ counted_if (is_done result) (openings_of self.old) }
+        ensures counted { openings_of self.new
+            ≡ counted_if (is_done result) (openings_of self.old) }
 
         ensures failed { (result ≡ Opened.Failed) ↔ IsTrue (fails_opening self.old) }
         ensures faults { faults_of self.new

@@ -16,7 +16,8 @@ ghost use Rattle.play_laws.specs.Taking.{IsOfItsCalls, MayTakeAll, TakesAll};
 /// that nothing is ready: where fewer wait than a pump takes, none longer than one may be.
 pub fn a_pump_takes_all_that_waits()
     ensures { (settings : Settings) (before entries rest : List Entry) (left : ℕ)
-        → IsOfItsCalls settings (before ++ entries ++ rest) → IsPump left entries → MayTakeAll settings before left
+        → IsOfItsCalls settings (before ++ entries ++ rest)
+        → IsPump left entries → MayTakeAll settings before left
         → TakesAll settings before entries }
 {}
 
@@ -25,7 +26,8 @@ pub fn a_pump_takes_all_that_waits()
 /// (`tells` of its `receive`); so no receive of a session silences it.
 pub fn a_memory_link_tells_of_each_session()
     ensures { (limit : ℕ) (p : Plan) (steps : List Step) (first rest : List Entry) → limit ≤ 2 ^ 42
-        → AreStepsOf limit p steps → IsRun p steps → journal p steps ≡ first ++ rest → ¬ EndsInNothings first }
+        → AreStepsOf limit p steps → IsRun p steps
+        → journal p steps ≡ first ++ rest → ¬ EndsInNothings first }
 {}
 
 /// A link in memory that was made anew and tells (`told`, `patience` of `MemoryLink::new`) tells to the end of a session over it, by what `play` and every other

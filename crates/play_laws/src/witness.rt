@@ -17,9 +17,11 @@ ghost use Rattle.play_laws.specs.Small.{EndsBehind, IsNewLink, IsPlayedOver, Pla
 /// frame is lost, and holds the closing one, number 1. With `fate 1 drop` it holds the first, number 0. With both it waits for its
 /// start. The closed session, and so its report, is that of just these steps.
 pub fn a_script_with_a_fate_ends_so()
-    ensures first { (link : LinkValue) (closed : Closed) → IsPlayedOver link ((0, fates.Drop) ∷ []) closed
+    ensures first { (link : LinkValue) (closed : Closed)
+        → IsPlayedOver link ((0, fates.Drop) ∷ []) closed
         → EndsBehind first_lost closed (Some small_row) (Some 1) Start }
-    ensures last { (link : LinkValue) (closed : Closed) → IsPlayedOver link ((1, fates.Drop) ∷ []) closed
+    ensures last { (link : LinkValue) (closed : Closed)
+        → IsPlayedOver link ((1, fates.Drop) ∷ []) closed
         → EndsBehind last_lost closed (Some small_row) (Some 0) Start }
     ensures both { (link : LinkValue) (closed : Closed)
         → IsPlayedOver link ((0, fates.Drop) ∷ (1, fates.Drop) ∷ []) closed
@@ -29,9 +31,11 @@ pub fn a_script_with_a_fate_ends_so()
 /// And its report is this text: with `fate 0 drop` one datagram was received, and the reader has number 1 and version 1; with
 /// `fate 1 drop` it has number 0; with both none was received, and the reader waits for its start.
 pub fn a_script_with_a_fate_reports_so()
-    ensures first { (link : LinkValue) (closed : Closed) → IsPlayedOver link ((0, fates.Drop) ∷ []) closed
+    ensures first { (link : LinkValue) (closed : Closed)
+        → IsPlayedOver link ((0, fates.Drop) ∷ []) closed
         → ReportsSo closed first_lost_run first_lost_text }
-    ensures last { (link : LinkValue) (closed : Closed) → IsPlayedOver link ((1, fates.Drop) ∷ []) closed
+    ensures last { (link : LinkValue) (closed : Closed)
+        → IsPlayedOver link ((1, fates.Drop) ∷ []) closed
         → ReportsSo closed last_lost_run last_lost_text }
     ensures both { (link : LinkValue) (closed : Closed)
         → IsPlayedOver link ((0, fates.Drop) ∷ (1, fates.Drop) ∷ []) closed
@@ -43,5 +47,6 @@ pub fn a_script_with_a_fate_reports_so()
 pub fn a_play_over_a_new_link_is_played_over_it()
     ensures { (old new : LinkValue) (fates : List (ℕ × Fate)) (closed : Closed) → IsNewLink old
         → PlaysOver old new fates (Ok closed)
-        → IsPlayOf built_in_config (small_script fates) (told_by new) closed → IsPlayedOver new fates closed }
+        → IsPlayOf built_in_config (small_script fates) (told_by new) closed
+        → IsPlayedOver new fates closed }
 {}

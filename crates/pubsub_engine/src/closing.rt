@@ -32,27 +32,36 @@ impl Session<'_> {
     /// be that of a data frame that the log keeps and of one that it doesn't.
     pub fn close(self, alloc: Global, dones: &[Done]) -> Result<Closed, NoMemory>
         requires session { IsSession self }
-        ensures closed { (p : Plan) (steps : List Step) → Stands p steps self.entry → AreInOrder dones.now
+        ensures closed { (p : Plan) (steps : List Step)
+            → Stands p steps self.entry → AreInOrder dones.now
             → let versions = tells_versions self.entry in
-            IfOk result (IsClosedTelling versions (logs_cut (logged_of self.entry) p steps) p steps) }
+            IfOk result
+            (IsClosedTelling versions (logs_cut (logged_of self.entry) p steps) p steps) }
         ensures whole { KeepsWholeLogs self.entry → (p : Plan) (steps : List Step)
-            → Stands p steps self.entry → AreInOrder dones.now → IfOk result (IsClosedAfter p steps) }
+            → Stands p steps self.entry → AreInOrder dones.now
+            → IfOk result (IsClosedAfter p steps) }
         ensures histories { length dones.now ≤ 256
-            → IfOk result (λ closed. (set : ℕ) (threads : List ℕ) → set < length (passes_of self.entry)
-            → IsAuthored set dones.now threads → length threads ≡ length (pass_at (passes_of self.entry) set).seen
+            → IfOk result (λ closed. (set : ℕ) (threads : List ℕ)
+            → set < length (passes_of self.entry) → IsAuthored set dones.now threads
+            → length threads ≡ length (pass_at (passes_of self.entry) set).seen
             → HasThreads closed.histories set threads) }
-        ensures watches { AreInOrder dones.now → IfOk result (λ closed. closed.watches ≡ watches_of dones.now) }
-        ensures of { IfOk result (λ closed. (steps : List Step) → Stands (plan_of self.entry) steps self.entry
-            → AreLooksAt (readers (plan_of self.entry).config) dones.now → IsClosedOf (plan_of self.entry).config closed) }
+        ensures watches { AreInOrder dones.now
+            → IfOk result (λ closed. closed.watches ≡ watches_of dones.now) }
+        ensures of { IfOk result (λ closed. (steps : List Step)
+            → Stands (plan_of self.entry) steps self.entry
+            → AreLooksAt (readers (plan_of self.entry).config) dones.now
+            → IsClosedOf (plan_of self.entry).config closed) }
         ensures lives { (p : Plan) (life : List Lived) → StandsIn p life self.entry
             → IfOk result (IsClosedIn (tells_versions self.entry) (logged_of self.entry) p life) }
         ensures whole_lives { KeepsWholeLogs self.entry → (p : Plan) (life : List Lived)
             → StandsIn p life self.entry → IfOk result (IsClosedWhole p life) }
-        ensures ends { (p : Plan) (life : List Lived) → StandsIn p life self.entry → AreInOrder dones.now
+        ensures ends { (p : Plan) (life : List Lived)
+            → StandsIn p life self.entry → AreInOrder dones.now
             → IfOk result (TellsEndsIf (tells_versions self.entry) p.config) }
         ensures of_lives { IfOk result (λ closed. (life : List Lived)
             → StandsIn (plan_of self.entry) life self.entry
-            → AreLooksAt (readers (plan_of self.entry).config) dones.now → IsClosedOf (plan_of self.entry).config closed) }
+            → AreLooksAt (readers (plan_of self.entry).config) dones.now
+            → IsClosedOf (plan_of self.entry).config closed) }
     {
         each_held_row_has_its_number();
         let sets = self.sets.metas.len() as u8;

@@ -66,7 +66,8 @@ pub(crate) fn writer_ends(
     requires { MayTellWriters config.now tree.now publisher.now }
     ensures { IfOk result (λ ends. (most : ℕ) (p : Plan) (steps : List Step) (a : Account)
         → HavePublished config.now most p steps a tree.now publisher.now
-        → AllZip (IsWriterEndBy (log_after most p.config a.deeds) p steps a) (writer_places p.config) ends.items) }
+        → AllZip (IsWriterEndBy (log_after most p.config a.deeds) p steps a)
+        (writer_places p.config) ends.items) }
 {
     let mut ends = Vec::new(alloc);
     for g in 0..config.group.as_slice().len() {

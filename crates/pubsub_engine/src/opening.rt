@@ -59,7 +59,8 @@ impl<'c> Session<'c> {
         ensures is_plan { HasTypes config.now → IfOk result (λ o. IsPlan (plan_of o.session)) }
         ensures session { IfOk result (λ o. IsSession o.session) }
         ensures stands { IfOk result (λ o. Stands (plan_of o.session) [] o.session) }
-        ensures left { IfOk result (λ o. left_of o.session ≡ opening_left size.now.ticks size.now.logged) }
+        ensures left { IfOk result (λ o.
+            left_of o.session ≡ opening_left size.now.ticks size.now.logged) }
         ensures appends { IfOk result
             (λ o. appends_left o.session ≡ map (λ append. append.set) size.now.appends.items) }
         ensures bank { IfOk result (λ o. IsBankOf o.session o.bank) }

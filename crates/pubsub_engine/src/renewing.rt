@@ -23,7 +23,8 @@ impl Session<'_> {
     pub fn renew(&mut self, key_group: u8, ring: Ring) -> bool
         requires session { IsSession self.old }
         requires there { key_group < length (plan_of self.old).config.keygroup }
-        requires long { is_long_ring ring ≡ is_long (keygroup_at (plan_of self.old).config key_group).policy }
+        requires long { is_long_ring ring
+            ≡ is_long (keygroup_at (plan_of self.old).config key_group).policy }
         ensures session { IsSession self.new }
         ensures kept { (p : Plan) (life : List Lived) → StandsIn p life self.old
             → IsTrue result ↔ KeepsToken (sender_in p life key_group) (key_sets ring) }

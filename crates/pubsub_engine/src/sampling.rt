@@ -77,8 +77,10 @@ impl Samples {
         requires count { vec_len self.old.cut ≡ vec_len sets.now.metas }
         requires rows { AreRowsOf sets.now.full.items self.old.taken.items }
         requires grow { GrowTo sets.now.metas.items sets.now.full.items }
-        ensures cut { self.new.cut.items ≡ rows_cut sets.now.metas.items sets.now.full.items self.old.taken.items }
-        ensures belong { AllZip (λ meta sampled. Belongs meta sampled.row.words) sets.now.metas.items self.new.cut.items }
+        ensures cut { self.new.cut.items
+            ≡ rows_cut sets.now.metas.items sets.now.full.items self.old.taken.items }
+        ensures belong { AllZip (λ meta sampled. Belongs meta sampled.row.words)
+            sets.now.metas.items self.new.cut.items }
         ensures rest { self.new ≡ record self.old { cut = self.new.cut } }
     {
         for set in 0..sets.metas.len() {

@@ -148,17 +148,22 @@ impl<'c> Session<'c> {
         requires may { MayTick ms closing self.old }
         ensures session { IsSession self.new }
         ensures left { CountsTick closing (left_of self.old) (left_of self.new) }
-        ensures leads { result ≡ Ticked.Done → (p : Plan) (steps : List Step) → Stands p steps self.old
+        ensures leads { result ≡ Ticked.Done
+            → (p : Plan) (steps : List Step) → Stands p steps self.old
             → (done : List Bool) × Leads p steps (Tick ms closing (sampled_by self.old) done)
             (L.told link.old) (L.told link.new) self.new }
-        ensures halted { result ≡ Ticked.Memory → (p : Plan) (steps : List Step) → Stands p steps self.old
-            → HaltsTick p steps ms closing (sampled_by self.old) (L.told link.old) (L.told link.new) }
-        ensures lives { result ≡ Ticked.Done → (p : Plan) (life : List Lived) → StandsIn p life self.old
+        ensures halted { result ≡ Ticked.Memory
+            → (p : Plan) (steps : List Step) → Stands p steps self.old
+            → HaltsTick p steps ms closing (sampled_by self.old)
+            (L.told link.old) (L.told link.new) }
+        ensures lives { result ≡ Ticked.Done
+            → (p : Plan) (life : List Lived) → StandsIn p life self.old
             → (done : List Bool) × LeadsIn p life (Tick ms closing (sampled_by self.old) done)
             (L.told link.old) (L.told link.new) self.new }
-        ensures halted_lives { result ≡ Ticked.Memory → (p : Plan) (life : List Lived)
-            → StandsIn p life self.old
-            → HaltsTickIn p life ms closing (sampled_by self.old) (L.told link.old) (L.told link.new) }
+        ensures halted_lives { result ≡ Ticked.Memory
+            → (p : Plan) (life : List Lived) → StandsIn p life self.old
+            → HaltsTickIn p life ms closing (sampled_by self.old)
+            (L.told link.old) (L.told link.new) }
         ensures passes { KeepsPasses self.old self.new }
         ensures appends { appends_left self.new ≡ appends_left self.old }
         ensures memory { result ≡ Ticked.Memory → IsTrue L.takes_memory }
@@ -191,14 +196,17 @@ impl<'c> Session<'c> {
         ensures targets { AreTargetsOf self.new targets.now }
         ensures left { CountsPump (left_of self.old) (left_of self.new) }
         ensures leads { (p : Plan) (steps : List Step) → Stands p steps self.old
-            → (entries : List Entry) × Leads p steps (Pump entries) (L.told link.old) (L.told link.new) self.new
+            → (entries : List Entry)
+            × Leads p steps (Pump entries) (L.told link.old) (L.told link.new) self.new
             × (result.taken ≡ count_by is_datagram entries) }
         ensures lives { (p : Plan) (life : List Lived) → StandsIn p life self.old
-            → (entries : List Entry) × LeadsIn p life (Pump entries) (L.told link.old) (L.told link.new) self.new
+            → (entries : List Entry)
+            × LeadsIn p life (Pump entries) (L.told link.old) (L.told link.new) self.new
             × (result.taken ≡ count_by is_datagram entries) }
         ensures limit { IsTrue result.limit ↔ (result.taken ≡ most_taken) }
         ensures stored { (reader : ℕ) → reader < length (keeper_of self.old)
-            → AddsOneAtMost (pass_at (keeper_of self.old) reader) (pass_at (keeper_of self.new) reader) }
+            → AddsOneAtMost
+            (pass_at (keeper_of self.old) reader) (pass_at (keeper_of self.new) reader) }
         ensures passes { passes_of self.new ≡ passes_of self.old }
         ensures sampled { sampled_by self.new ≡ sampled_by self.old }
         ensures plan { plan_of self.new ≡ plan_of self.old }
@@ -239,21 +247,24 @@ impl<'c> Session<'c> {
     pub fn origin(&self, reader: u8) -> Origin
         requires session { IsSession self.now }
         requires there { reader < length (readers (plan_of self.now).config) }
-        ensures origin { (p : Plan) (steps : List Step) (place : MemberPlace) → Stands p steps self.now
-            → slice_get (reader_places p.config) reader ≡ Some place
+        ensures origin { (p : Plan) (steps : List Step) (place : MemberPlace)
+            → Stands p steps self.now → slice_get (reader_places p.config) reader ≡ Some place
             → let logs = logs_cut (logged_of self.now) p steps in
             IsOriginWith (logs_told (tells_versions self.now) logs) p steps place result }
-        ensures whole { KeepsWholeLogs self.now → (p : Plan) (steps : List Step) (place : MemberPlace)
+        ensures whole { KeepsWholeLogs self.now
+            → (p : Plan) (steps : List Step) (place : MemberPlace)
             → Stands p steps self.now → slice_get (reader_places p.config) reader ≡ Some place
             → IsOriginOf p steps place result }
-        ensures lives { (p : Plan) (life : List Lived) (place : MemberPlace) → StandsIn p life self.now
-            → slice_get (reader_places p.config) reader ≡ Some place
+        ensures lives { (p : Plan) (life : List Lived) (place : MemberPlace)
+            → StandsIn p life self.now → slice_get (reader_places p.config) reader ≡ Some place
             → let logs = logs_in (logged_of self.now) p life in
             IsOriginFrom (logs_told (tells_versions self.now) logs) p place
             ((account_in p life).stores place.0 place.1) result }
-        ensures whole_lives { KeepsWholeLogs self.now → (p : Plan) (life : List Lived) (place : MemberPlace)
+        ensures whole_lives { KeepsWholeLogs self.now
+            → (p : Plan) (life : List Lived) (place : MemberPlace)
             → StandsIn p life self.now → slice_get (reader_places p.config) reader ≡ Some place
-            → IsOriginFrom (log_in p life) p place ((account_in p life).stores place.0 place.1) result }
+            → IsOriginFrom (log_in p life) p place
+            ((account_in p life).stores place.0 place.1) result }
     {
         let versions = self.left.tells_versions();
         self.stores

@@ -58,13 +58,18 @@ impl Sets {
     /// The next append takes effect; its data set.
     pub(crate) fn append(&mut self) -> u8
         requires left { self.old.made < length self.old.later.items }
-        requires there { (d : Growth) → (slice_index_or self.old.later.items self.old.made d).set < length self.old.metas.items }
-        ensures metas { (d : Growth) → let growth = slice_index_or self.old.later.items self.old.made d in
-            (self.new.metas.items ≡ slice_set self.old.metas.items growth.set growth.meta) × (result ≡ growth.set) }
+        requires there { (d : Growth)
+            → (slice_index_or self.old.later.items self.old.made d).set
+            < length self.old.metas.items }
+        ensures metas { (d : Growth)
+            → let growth = slice_index_or self.old.later.items self.old.made d in
+            (self.new.metas.items ≡ slice_set self.old.metas.items growth.set growth.meta)
+            × (result ≡ growth.set) }
         ensures made { self.new.made ≡ self.old.made + 1 }
         ensures full { self.new.full ≡ self.old.full }
         ensures count { length self.new.later.items ≡ length self.old.later.items }
-        ensures later { drop (self.old.made + 1) self.new.later.items ≡ drop (self.old.made + 1) self.old.later.items }
+        ensures later { drop (self.old.made + 1) self.new.later.items
+            ≡ drop (self.old.made + 1) self.old.later.items }
     {
         let growth = &mut self.later[self.made];
         let set = growth.set;

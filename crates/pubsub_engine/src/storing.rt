@@ -141,9 +141,10 @@ impl Stores {
         requires there { r < length config.now.readgroup }
         requires first { first ≡ first_reader config.now r }
         requires may { MayStoreFrom config.now targets.now first self.old }
-        ensures may { MayStoreFrom config.now targets.now (first_reader config.now (r + 1)) self.new }
-        ensures stored { HaveStoredOn config.now subscriber.now.groups.items first (first_reader config.now (r + 1))
-            self.old self.new }
+        ensures may { MayStoreFrom config.now targets.now
+            (first_reader config.now (r + 1)) self.new }
+        ensures stored { HaveStoredOn config.now subscriber.now.groups.items
+            first (first_reader config.now (r + 1)) self.old self.new }
     {
         let parts = read_group_part(config, r).reader.as_slice();
         for i in 0..parts.len() {
@@ -199,7 +200,8 @@ impl Last {
         ensures some { (meta : MetaData) (last : Store) (before : List Store)
             → IsLast (last ∷ before) meta kept.now.words self.now → Belongs meta row.now.words
             → let words = row.now.words in
-            result ≡ is_same numbering last (record { number = number; row = row_in meta.fields words }) }
+            result ≡ is_same numbering last
+            (record { number = number; row = row_in meta.fields words }) }
     {
         self.is_there
             && match numbering {

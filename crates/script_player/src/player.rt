@@ -64,7 +64,8 @@ impl<'c> Player<'c> {
         ensures new { IfOk result IsNew }
         ensures plan { IfOk result (λ player. plan_of player.session
             ≡ record { config = config.now; full = full_of config.now.dataset size.now.appends.items }) }
-        ensures is_plan { HasTypes config.now → IfOk result (λ player. IsPlan (plan_of player.session)) }
+        ensures is_plan { HasTypes config.now
+            → IfOk result (λ player. IsPlan (plan_of player.session)) }
         ensures left { IfOk result
             (λ player. left_of player.session ≡ opening_left size.now.ticks size.now.logged) }
         ensures appends { IfOk result (λ player. appends_left player.session

@@ -26,7 +26,8 @@ pub fn size_of(config: &Config, script: &Script) -> Size
     ensures writes { result.writes.items ≡ quotas_by (length config.now.dataset) script.now.lines }
     ensures small { AreSmall result.writes.items }
     ensures appends { AreAppends config.now config.now.dataset result.appends.items }
-    ensures sets { map (λ append. append.set) result.appends.items ≡ appended_sets script.now.lines }
+    ensures sets { map (λ append. append.set) result.appends.items
+        ≡ appended_sets script.now.lines }
     ensures full { full_of config.now.dataset result.appends.items ≡ script.now.metas }
 {
     let ticks = script.ticks() as u32;

@@ -33,7 +33,8 @@ pub(crate) fn conduct<R: Wait, L: Link, G: Gate>(
     requires session { IsSession session.old }
     requires bank { IsBankOf session.old bank.now }
     requires targets { AreTargetsOf session.old targets.now }
-    requires begun { HasConducted (plan_of session.old).config script.now [] (L.told link.old) session.old }
+    requires begun { HasConducted (plan_of session.old).config script.now []
+        (L.told link.old) session.old }
     ensures session { OnOk result (IsSession session.new) }
     ensures bank { OnOk result (IsBankOf session.new bank.now) }
     ensures targets { OnOk result (AreTargetsOf session.new targets.now) }

@@ -15,7 +15,8 @@ use version_cell::histories_are_the_models;
 /// The rows of a played script are those of legal histories of its threads' writes: in the history of a data set each thread has all
 /// of its writes there, in order, and these determine the row of every version.
 pub fn a_played_script_writes_legal_histories()
-    ensures { (config : Config) (script : Script) → IsScript config script → WritesLegally config script }
+    ensures { (config : Config) (script : Script)
+        → IsScript config script → WritesLegally config script }
 {
     histories_are_the_models();
     closed_histories_are_legal();

@@ -90,7 +90,8 @@ fn run_beside<R: Threads + Wait + Sync, L: Link, G: Gate>(
     requires session { IsSession session.old }
     requires bank { IsBankOf session.old bank.now }
     requires targets { AreTargetsOf session.old targets.now }
-    requires begun { HasConducted (plan_of session.old).config script.now [] (L.told link.old) session.old }
+    requires begun { HasConducted (plan_of session.old).config script.now []
+        (L.told link.old) session.old }
     requires ready { AreReady bank.now targets.now.cells crew }
     ensures session { OnOk result (IsSession session.new) }
     ensures bank { OnOk result (IsBankOf session.new bank.now) }
@@ -112,7 +113,8 @@ fn run_beside<R: Threads + Wait + Sync, L: Link, G: Gate>(
                 × IsSession session.now
                 × IsBankOf session.now bank.now
                 × AreTargetsOf session.now targets.now
-                × HasConducted (plan_of session.now).config script.now [] (L.told link.now) session.now }
+                × HasConducted (plan_of session.now).config script.now []
+                (L.told link.now) session.now }
         { conduct(rt, session, bank, targets, script, link, gate) },
     );
     conducted?;

@@ -70,7 +70,8 @@ impl Round {
         ensures holds { HoldRound told.now.config.now self.new }
         ensures moment { self.new.moment ≡ told.now.moment }
         ensures goes_on { AllGoOnAfter told.now self.old.publisher self.new.publisher }
-        ensures logs { AreStillLogged self.old.publisher.groups.items self.new.publisher.groups.items }
+        ensures logs { AreStillLogged
+            self.old.publisher.groups.items self.new.publisher.groups.items }
         ensures ticked { result ≡ Ticked.Done
             → RoundTicks told.now self.old self.new (L.told link.old) (L.told link.new) }
         ensures halted { result ≡ Ticked.Memory

@@ -84,9 +84,12 @@ pub fn top<R: Threads + Wait + Sync, F: Folder, A: Link, B: Link, G: Gate, K: Si
     ensures untouched { result ≡ 2 → folder.new ≡ folder.old }
 
     // What a command doesn't use, what an answer other than 0 leaves, and what any does.
-    ensures folder { (shape : Shape) → shape_of words.now ≡ Some shape → uses_folder shape ≡ false → folder.new ≡ folder.old }
-    ensures lab { (shape : Shape) → shape_of words.now ≡ Some shape → uses_lab shape ≡ false → lab.new ≡ lab.old }
-    ensures wire { (shape : Shape) → shape_of words.now ≡ Some shape → uses_wire shape ≡ false → wire.new ≡ wire.old }
+    ensures folder { (shape : Shape) → shape_of words.now ≡ Some shape
+        → uses_folder shape ≡ false → folder.new ≡ folder.old }
+    ensures lab { (shape : Shape) → shape_of words.now ≡ Some shape
+        → uses_lab shape ≡ false → lab.new ≡ lab.old }
+    ensures wire { (shape : Shape) → shape_of words.now ≡ Some shape
+        → uses_wire shape ≡ false → wire.new ≡ wire.old }
     ensures unlinked { IsBeforeLink result → (lab.new ≡ lab.old) × (wire.new ≡ wire.old) }
     ensures silent { result ≢ 0 → result ≢ 6 → out.new ≡ out.old }
     ensures files { (name : List ℕ) → F.tells folder.new name ≡ F.tells folder.old name }

@@ -99,7 +99,8 @@ fn check_of<'w>(command: &str, option: &str, config: &'w str) -> Option<Command<
 }
 
 fn long<'w>(command: &str, script: &'w str, other: &'w str, last: &'w str) -> Option<Command<'w>>
-    ensures shape { long_shape command.now script.now other.now last.now ≡ option_map shape_by result }
+    ensures shape { long_shape command.now script.now other.now last.now
+        ≡ option_map shape_by result }
     ensures bounded { IfSome result IsBounded }
 {
     if command == "relay" {
@@ -128,7 +129,8 @@ fn relay_of<'w>(script: &'w str, first: &'w str, second: &'w str) -> Option<Comm
 }
 
 fn named<'w>(command: &str, script: &'w str, option: &str, config: &'w str) -> Option<Command<'w>>
-    ensures shape { named_shape command.now script.now option.now config.now ≡ option_map shape_by result }
+    ensures shape { named_shape command.now script.now option.now config.now
+        ≡ option_map shape_by result }
     ensures bounded { IfSome result IsBounded }
 {
     if option == "--config" && names_file(script.as_bytes()) && names_file(config.as_bytes()) {
@@ -139,7 +141,8 @@ fn named<'w>(command: &str, script: &'w str, option: &str, config: &'w str) -> O
 }
 
 fn scripted<'w>(command: &str, script: &'w str, config: Option<&'w str>) -> Option<Command<'w>>
-    ensures shape { script_shape command.now script.now (option_copied config.entry) ≡ option_map shape_by result }
+    ensures shape { script_shape command.now script.now (option_copied config.entry)
+        ≡ option_map shape_by result }
     ensures bounded { IfSome result IsBounded }
 {
     if command == "play" {

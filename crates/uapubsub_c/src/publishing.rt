@@ -241,7 +241,8 @@ pub extern "C" fn uapubsub_publisher_resume_with(
     ensures answers { IsOneOf (CLOSED ∷ OK ∷ BAD_KEYS ∷ INDEX ∷ OTHER_SIDE ∷ []) result }
     ensures ready { IsReady handle.new }
     ensures behind { result ≡ OK
-        → Leaves handle.old handle.new (PublisherMoves (IsBehindWith keygroup now token used sets.now)) }
+        → Leaves handle.old handle.new
+        (PublisherMoves (IsBehindWith keygroup now token used sets.now)) }
     ensures bad_keys { result ≡ BAD_KEYS
         → Tells handle.old (PublisherIs (MayNotResumeWith keygroup now token used sets.now)) }
     ensures index { result ≡ INDEX → Tells handle.old (PublisherIs (HasNoKeyGroup keygroup)) }

@@ -201,7 +201,8 @@ impl<R: Net> Link for UdpLink<'_, R> {
             (faults_of self.old) (faults_of self.new) (result ≡ Opened.Failed) }
         ensures lasts { TellsOn told_by patience_of 0 self.old self.new }
         ensures making { made_by self.new ≡ made_by self.old }
-        ensures counted { openings_of self.new ≡ counted_if (is_done result) (openings_of self.old) }
+        ensures counted { openings_of self.new
+            ≡ counted_if (is_done result) (openings_of self.old) }
 
         ensures failed { result ≡ Opened.Failed
             → faults_of self.new ≡ counted_if true (faults_of self.old) }
@@ -354,7 +355,8 @@ pub fn received(got: io::Result<usize>, buffer: &[u8], into: &mut [u8]) -> Recei
         → result ≡ Received.Datagram count }
     ensures bytes { (count : ℕ) → got ≡ Ok count → count ≤ length into.old
         → take count into.new ≡ take count buffer.now }
-    ensures long { (count : ℕ) → got ≡ Ok count → length into.old < count → result ≡ Received.Long count }
+    ensures long { (count : ℕ) → got ≡ Ok count → length into.old < count
+        → result ≡ Received.Long count }
 {
     match got {
         Ok(count) if count > into.len() => Received::Long(count as u32),
