@@ -3,6 +3,7 @@ pub mod Protection
 pub mod Acceptance
 pub mod Opening
 pub mod Senders
+pub mod Lending
 pub mod Guards
 pub mod Opened
 pub mod FaultTexts

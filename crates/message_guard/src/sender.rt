@@ -1,6 +1,5 @@
 ghost use Rattle.std.specs.Prelude.{◌≡◌, ◌≢◌, ℕ, ◌+◌, ◌-◌, ◌<◌, ◌≤◌, ◌↔◌, length, IsTrue, Some, None, option_map, ⊤};
-ghost use Rattle.std.specs.Borrow.{sem, follows_so};
-ghost use mathlib.Core.Option.{none};
+ghost use Rattle.std.specs.Borrow.{sem};
 ghost use Rattle.group_keys.specs.Faults.{IsAccepted};
 ghost use Rattle.group_keys.specs.KeySets.{current};
 ghost use Rattle.group_keys.specs.Ring.{key_sets};
@@ -53,7 +52,7 @@ impl Model for Sender {
 }
 
 impl Sender {
-    ghost use Rattle.message_guard.specs.contracts.sender.Sender.{the_row};
+    ghost use Rattle.message_guard.specs.Lending.{LendsFront};
 
     /// The sender that goes on after `used` numbers under the token of moment 0. `random` begins each nonce, before the
     /// number as a UInt32, little-endian, and the block counter of each message, big-endian, begins at `first_block`.
@@ -149,8 +148,7 @@ impl Sender {
     pub fn front(&mut self, mode: Mode) -> SecurityPart<'_>
         requires room { self.old.used < 4294967295 }
         requires secured { IsTrue (is_secured mode) }
-        ensures* after { sem 𝓛 (follows_so the_row the_row self.entry.ghost_name none (λ _ _. ⊤)
-            (λ s. s ≡ advanced mode self.old)) }
+        ensures* after { sem 𝓛 (LendsFront mode self.entry) }
         ensures front { security_in result ≡ front_value mode (advanced mode self.old) }
         ensures written { IsSendersSecurity (security_in result) }
     {
