@@ -1,12 +1,13 @@
 //! What these tests do with a session.
-ghost use Rattle.std.specs.Prelude.{IfOk, IsSome, OnOk};
+ghost use Rattle.std.specs.Prelude.{◌≤◌, IfOk, IsSome, OnOk};
+ghost use Rattle.session_model.specs.Counts.{life_ticks};
 ghost use Rattle.writer_group.specs.Standing.{IsGood};
 ghost use Rattle.test_sessions.specs.Devices.{IsDevice};
 
 use crate::configuration::expect_small;
 use crate::device::Device;
 use crate::keys::ring_with;
-use crate::room::{TICKS, enough_room};
+use crate::room::room_of;
 use crate::showing::{Expected, shows};
 use crate::writing::write_next;
 use app_threads::Done;
@@ -20,20 +21,22 @@ use std::sync::Wait;
 use std::test::Fail;
 use ua_base::Link;
 
-/// A session of the configuration, before its first tick.
+/// A session of the configuration, before its first tick, with so many ticks before the closing one.
 pub(crate) fn device_of<'c, R: Wait>(
     rt: &R,
     alloc: Global,
     config: &'c Config,
+    ticks: u64,
 ) -> Result<Device<'c>, Fail>
-    requires { IsGood config.now }
+    requires good { IsGood config.now }
+    requires few { ticks ≤ life_ticks }
     ensures { IfOk result IsDevice }
 {
     expect_small(config)?;
     let [meta] = config.dataset.as_slice() else {
         return Err("another number of data sets".into());
     };
-    let size = enough_room();
+    let size = room_of(ticks);
     let Opening {
         session,
         bank,
@@ -47,7 +50,7 @@ pub(crate) fn device_of<'c, R: Wait>(
         bank,
         hands,
         targets,
-        ticks: TICKS,
+        ticks,
     })
 }
 

@@ -1,21 +1,19 @@
 //! What a closed session is to tell.
-use crate::showing::{all_came, refusals};
+use crate::showing::{Expected, all_came, refusals};
 use ps_report::{Break, Closed, GroupEnd, ReadGroupEnd, State};
 use std::process::Abort;
 use std::test::Fail;
 
-/// Five datagrams were sent, of which the second was refused, and the versions 1 to 4, of which the closing tick sent the last again.
-pub(crate) fn closes<R: Abort>(rt: &R, closed: &Closed) -> Result<(), Fail> {
+/// Five datagrams were sent, of which the second was refused and the fourth came last, and the versions 1 to 4, of which the closing
+/// tick sent the last again. The second message is missed. The fourth isn't, since the first datagram under a later token cuts the
+/// reader, whose run of messages begins anew.
+pub(crate) fn closes<R: Abort>(rt: &R, closed: &Closed, want: Expected) -> Result<(), Fail> {
     let state = State::Operational;
     let [group] = closed.groups.as_slice() else {
         return Err("another number of groups".into());
     };
     assert!(rt; *group == GroupEnd { state, sent: 5 });
-    let [writer] = closed.writers.as_slice() else {
-        return Err("another number of writers".into());
-    };
-    let log: [(u64, u64); 5] = [(0, 1), (1, 2), (2, 3), (3, 4), (4, 4)];
-    assert!(rt; writer.log.as_slice() == log.as_slice());
+    logs(rt, closed, &[(0, 1), (1, 2), (2, 3), (3, 4), (4, 4)])?;
     let [read_group] = closed.read_groups.as_slice() else {
         return Err("another number of read groups".into());
     };
@@ -29,11 +27,29 @@ pub(crate) fn closes<R: Abort>(rt: &R, closed: &Closed) -> Result<(), Fail> {
             }
     );
     assert!(rt; closed.link == all_came(5));
-    closes_reader(rt, closed)
+    let missed = [Break {
+        expected: 1,
+        got: 2,
+    }];
+    holds(rt, closed, want, &missed)
 }
 
-/// The reader holds the row of the closing tick, and missed the second message.
-fn closes_reader<R: Abort>(rt: &R, closed: &Closed) -> Result<(), Fail> {
+/// This is the writer's log.
+pub(crate) fn logs<R: Abort>(rt: &R, closed: &Closed, log: &[(u64, u64)]) -> Result<(), Fail> {
+    let [writer] = closed.writers.as_slice() else {
+        return Err("another number of writers".into());
+    };
+    assert!(rt; writer.log.as_slice() == log);
+    Ok(())
+}
+
+/// The reader holds what the getters told, and its run of messages broke so.
+pub(crate) fn holds<R: Abort>(
+    rt: &R,
+    closed: &Closed,
+    want: Expected,
+    breaks: &[Break],
+) -> Result<(), Fail> {
     let [reader] = closed.readers.as_slice() else {
         return Err("another number of readers".into());
     };
@@ -43,12 +59,8 @@ fn closes_reader<R: Abort>(rt: &R, closed: &Closed) -> Result<(), Fail> {
     };
     assert_eq!(rt;
         (held.number, held.version, held.row.words[0]),
-        (Some(4), Some(4), 4)
+        (Some(want.number), want.told(), want.version)
     );
-    let missed = [Break {
-        expected: 1,
-        got: 2,
-    }];
-    assert!(rt; reader.breaks == 1 && reader.recent.as_slice() == missed.as_slice());
+    assert!(rt; reader.breaks == breaks.len() as u64 && reader.recent.as_slice() == breaks);
     Ok(())
 }

@@ -21,8 +21,11 @@ fn behind(moment: u64, standing: (u32, u32), taken: u64, unknown: u64, number: u
         standing,
         taken,
         unknown,
+        waiting: 0,
+        older: 0,
         number,
         version: 0,
+        tells: true,
         stores: 0,
     }
 }
@@ -33,7 +36,7 @@ fn a_gateway_goes_on_under_other_rings(rt: HostRuntime) -> Result<(), Fail> {
     let first = configured(alloc)?;
     let second = configured_second(alloc)?;
     let mut link = empty_link(alloc);
-    opens(&rt, &mut link);
+    opens(&rt, &mut link, &[]);
     goes_on(&rt, alloc, &first, &second, &mut link)
 }
 

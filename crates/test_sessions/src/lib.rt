@@ -12,6 +12,8 @@ mod ends;
 mod gateway_renewing;
 #[cfg(test)]
 mod keys;
+#[cfg(test)]
+mod lasting;
 mod outlet;
 #[cfg(test)]
 mod relaying;

@@ -7,6 +7,7 @@ use crate::calls::{device_of, end, renew, round};
 use crate::configuration::configured;
 use crate::device::Device;
 use crate::ends::closes;
+use crate::room::TICKS;
 use crate::showing::Expected;
 use mem_edge::MemoryLink;
 use ps_config::Config;
@@ -14,16 +15,19 @@ use std::alloc::Global;
 use std::process::Abort;
 use std::sync::Wait;
 use std::test::Fail;
-use ua_base::{Link, Opened};
+use ua_base::{Fate, Link, Opened};
 
 /// Behind the first tick: the first datagram under the configured token, 5, was taken.
-const FIRST: Expected = Expected {
+pub(crate) const FIRST: Expected = Expected {
     moment: 100,
     standing: (5, 1),
     taken: 1,
     unknown: 0,
+    waiting: 0,
+    older: 0,
     number: 0,
     version: 1,
+    tells: true,
     stores: 1,
 };
 
@@ -33,8 +37,11 @@ const WITHOUT: Expected = Expected {
     standing: (5, 2),
     taken: 1,
     unknown: 1,
+    waiting: 0,
+    older: 0,
     number: 0,
     version: 1,
+    tells: true,
     stores: 1,
 };
 
@@ -44,31 +51,41 @@ const AGAIN: Expected = Expected {
     standing: (5, 3),
     taken: 2,
     unknown: 1,
+    waiting: 0,
+    older: 0,
     number: 2,
     version: 3,
+    tells: true,
     stores: 2,
 };
 
-/// Behind the fourth: a later token of the ring has come, under which numbers begin anew.
+/// Behind the fourth: a later token of the ring has come, under which numbers begin anew. Its first datagram is held up.
 const LATER: Expected = Expected {
     moment: 400,
     standing: (7, 1),
-    taken: 3,
+    taken: 2,
     unknown: 1,
-    number: 3,
-    version: 4,
-    stores: 3,
+    waiting: 1,
+    older: 0,
+    number: 2,
+    version: 3,
+    tells: true,
+    stores: 2,
 };
 
-/// Behind the closing one, which takes no time and sends the row once more.
+/// Behind the closing one, which takes no time and sends the row once more. That datagram comes first, and so the message of the one
+/// that was held up, which comes behind it, is passed over.
 const LAST: Expected = Expected {
     moment: 400,
     standing: (7, 2),
     taken: 4,
     unknown: 1,
+    waiting: 0,
+    older: 1,
     number: 4,
     version: 4,
-    stores: 4,
+    tells: true,
+    stores: 3,
 };
 
 #[test]
@@ -76,7 +93,7 @@ fn a_session_goes_on_under_other_rings(rt: HostRuntime) -> Result<(), Fail> {
     let alloc = rt.alloc();
     let config = configured(alloc)?;
     let mut link = empty_link(alloc);
-    opens(&rt, &mut link);
+    opens(&rt, &mut link, &[(3, Fate::Hold { after: 4 })]);
     goes_on(&rt, alloc, &config, &mut link)
 }
 
@@ -90,10 +107,10 @@ fn goes_on<R: Wait + Abort, L: Link>(
     requires good { IsGood config.now }
     requires open { IsSome (L.opened_with link.old) }
 {
-    let mut device = device_of(rt, alloc, config)?;
+    let mut device = device_of(rt, alloc, config, TICKS)?;
     rounds(rt, &mut device, link)?;
     let closed = end(rt, alloc, device, link, LAST)?;
-    closes(rt, &closed)
+    closes(rt, &closed, LAST)
 }
 
 /// Four rounds, and a ring behind each of the first three.
@@ -119,7 +136,7 @@ fn rounds<R: Wait + Abort, L: Link>(
     round(rt, device, link, 4, LATER)
 }
 
-/// A link that loses nothing, and that isn't open yet.
+/// A link in memory that isn't open yet, and whose calls don't fail.
 pub(crate) fn empty_link(alloc: Global) -> MemoryLink {
     MemoryLink::new(
         alloc,
@@ -130,9 +147,10 @@ pub(crate) fn empty_link(alloc: Global) -> MemoryLink {
     )
 }
 
-pub(crate) fn opens<L: Link>(rt: &impl Abort, link: &mut L)
+/// Opens a link that loses nothing, and gives its datagrams these fates.
+pub(crate) fn opens<L: Link>(rt: &impl Abort, link: &mut L, fates: &[(u64, Fate)])
     ensures { IsSome (L.opened_with link.new) }
 {
-    let opened = link.open(4840, &[]);
+    let opened = link.open(4840, fates);
     assert!(rt; opened == Opened::Done);
 }

@@ -2,6 +2,7 @@
 ghost use Rattle.pubsub_engine.specs.Holding.{IsSession, plan_of};
 ghost use Rattle.test_sessions.specs.Devices.{IsSmall};
 
+use dataset_reader::Passed;
 use ps_report::LinkEnd;
 use pubsub_engine::Session;
 use pubsub_states::{Component, State};
@@ -10,7 +11,7 @@ use std::process::Abort;
 /// The place of a token that isn't known among the causes of a report.
 const UNKNOWN_TOKEN: usize = 12;
 
-/// What the getters of a session are to tell, whose reader holds a row. Each datagram that was sent came, and was taken or has a token
+/// What the getters of a session are to tell, whose reader holds a row. Each datagram that was sent waits, was taken, or has a token
 /// that the read group doesn't know.
 #[derive(Clone, Copy)]
 pub(crate) struct Expected {
@@ -19,11 +20,23 @@ pub(crate) struct Expected {
     pub(crate) standing: (u32, u32),
     pub(crate) taken: u64,
     pub(crate) unknown: u64,
+    pub(crate) waiting: u64,
+    /// How many messages were older than the reader's.
+    pub(crate) older: u64,
     /// The number of the reader's message.
     pub(crate) number: u16,
     /// The version of its row, which has the same number in its only field.
     pub(crate) version: u64,
+    /// Whether the session tells versions by their numbers.
+    pub(crate) tells: bool,
     pub(crate) stores: u64,
+}
+
+impl Expected {
+    /// The version that is told beside the number.
+    pub(crate) fn told(&self) -> Option<u64> {
+        if self.tells { Some(self.version) } else { None }
+    }
 }
 
 /// Demands that the getters tell this.
@@ -47,10 +60,10 @@ fn shows_counts<R: Abort>(rt: &R, session: &Session<'_>, want: Expected)
     let causes = refusals(want.unknown);
     assert!(rt; tally.causes.as_slice() == causes.as_slice());
     let link = session.link();
-    assert!(rt; link == all_came(want.taken.saturating_add(want.unknown)));
+    assert!(rt; link == link_end(want.taken.saturating_add(want.unknown), want.waiting));
 }
 
-/// The state of the reader, its row, and where its last store comes from.
+/// The state of the reader, its row, what it passed over, and where its last store comes from.
 fn shows_row<R: Abort>(rt: &R, session: &Session<'_>, want: Expected)
     requires session { IsSession session.now }
     requires small { IsSmall (plan_of session.now).config }
@@ -66,12 +79,17 @@ fn shows_row<R: Abort>(rt: &R, session: &Session<'_>, want: Expected)
         (reader.number(), row.words[0]),
         (Some(want.number), want.version)
     );
+    let passed = Passed {
+        older: want.older,
+        ..Passed::default()
+    };
+    assert_eq!(rt; reader.passed(), passed);
     let origin = session.origin(0);
     assert_eq!(rt;
         (origin.store, origin.number),
         (want.stores, Some(want.number))
     );
-    assert_eq!(rt; origin.version, Some(want.version));
+    assert_eq!(rt; origin.version, want.told());
 }
 
 /// So many refusals, each for a token that isn't known.
@@ -83,10 +101,15 @@ pub(crate) fn refusals(count: u64) -> [u64; 20] {
 
 /// So many datagrams were sent, and came.
 pub(crate) fn all_came(count: u64) -> LinkEnd {
+    link_end(count, 0)
+}
+
+/// So many datagrams came, and so many more were sent.
+fn link_end(came: u64, waiting: u64) -> LinkEnd {
     LinkEnd {
-        sent: count,
+        sent: came.saturating_add(waiting),
         failed: 0,
-        received: count,
+        received: came,
         broken: 0,
         long: 0,
         limit: 0,
