@@ -1,20 +1,20 @@
 //! The session of a publisher and a subscriber, and the datagrams between them.
-ghost use Rattle.std.specs.Prelude.{map};
+ghost use Rattle.std.specs.Prelude.{IfOk, map};
 ghost use Rattle.std.specs.Bool.{OnTrue};
-ghost use Rattle.group_keys.specs.Ring.{key_sets};
+ghost use Rattle.group_keys.specs.Ring.{is_long, key_sets};
 ghost use Rattle.message_guard.specs.Protection.{keys_in};
 ghost use Rattle.device_sides.specs.Readings.{HasKeysRenewed};
-ghost use Rattle.device_sides.specs.Sides.{HasRenewed, IsPublisher, IsSubscriber};
+ghost use Rattle.device_sides.specs.Sides.{FitsKeyGroup, FitsReadGroup, HasRenewed, IsPublisher, IsSubscriber};
 
 use crate::configuration::CONFIGURATION;
 use crate::fault::Fault;
-use crate::keys::{pulled_ring, service_of};
+use crate::keys::{pulled_ring, reply_of, service_of};
 use crate::tally::Tally;
 use dataset_meta::Name32;
 use dataset_reader::Why;
 use device_sides::{Next, Publisher, Subscriber};
 use group_keys::Ring;
-use key_service::Service;
+use key_service::{Keys, Service};
 use message_guard::OpenFault;
 use reader_group::Refusal;
 use std::alloc::Global;
@@ -82,10 +82,10 @@ impl Session {
     /// Each side pulls a ring by its own clock, and goes on with it. The answer is the token of the current key. What was sent under
     /// the token before has come by now: the new rings lack it.
     pub fn pull(&mut self) -> Result<u32, Fault> {
-        let (service, group, now) = (&self.service, &self.group, self.moment());
-        let asked = now.saturating_add(SERVICE_AHEAD);
-        let own = pulled_ring(service, group, asked, now)?;
-        let other = pulled_ring(service, group, asked, now.saturating_add(SUBSCRIBER_AHEAD))?;
+        let now = self.moment();
+        let own = ring_for_sender(&self.publisher, &self.reply(now)?, now)?;
+        let ahead = now.saturating_add(SUBSCRIBER_AHEAD);
+        let other = ring_for_group(&self.subscriber, &self.reply(now)?, ahead)?;
         let [current, _] = own.key_sets() else {
             return Err(Fault::NoRing);
         };
@@ -123,6 +123,15 @@ impl Session {
             (Ok(row), Some(reader)) => Ok((row, reader.why())),
             _ => Err(Fault::NoRow),
         }
+    }
+
+    /// What the service replies at this moment of the publisher's clock.
+    fn reply(&self, now: u64) -> Result<Keys, Fault> {
+        reply_of(
+            &self.service,
+            &self.group,
+            now.saturating_add(SERVICE_AHEAD),
+        )
     }
 
     /// The moment of the last turn, by the publisher's clock, in milliseconds.
@@ -174,10 +183,32 @@ impl Session {
     }
 }
 
+/// The publisher's ring of this reply, with keys as long as those of its key group.
+fn ring_for_sender(publisher: &Publisher, reply: &Keys, clock: u64) -> Result<Ring, Fault>
+    ensures long { IfOk result (λ ring. FitsKeyGroup publisher.now.config 0 (is_long ring)) }
+{
+    match publisher.has_long_keys(0) {
+        Some(long) => pulled_ring(reply, long, clock),
+        None => Err(Fault::Unlike),
+    }
+}
+
+/// The subscriber's ring of this reply, with keys as long as those of its read group.
+fn ring_for_group(subscriber: &Subscriber, reply: &Keys, clock: u64) -> Result<Ring, Fault>
+    ensures long { IfOk result (λ ring. FitsReadGroup subscriber.now.config 0 (is_long ring)) }
+{
+    match subscriber.has_long_keys(0) {
+        Some(long) => pulled_ring(reply, long, clock),
+        None => Err(Fault::Unlike),
+    }
+}
+
 /// The sender of the publisher's key group goes on with its own ring, and the read group with the other.
 fn renew(publisher: &mut Publisher, subscriber: &mut Subscriber, own: Ring, other: Ring) -> bool
     requires publisher { IsPublisher publisher.old }
     requires subscriber { IsSubscriber subscriber.old }
+    requires own_long { FitsKeyGroup publisher.old.config 0 (is_long own) }
+    requires other_long { FitsReadGroup subscriber.old.config 0 (is_long other) }
     ensures publisher { IsPublisher publisher.new }
     ensures subscriber { IsSubscriber subscriber.new }
     ensures sender { OnTrue result (HasRenewed 0 (key_sets own) publisher.old publisher.new) }
