@@ -27,19 +27,25 @@ const REQUEST_BYTES: usize = 44;
 
 const REPLY_BYTES: usize = 1197;
 
-/// The ring of a puller whose clock stands at `clock`, of a key group that has keys of AES-256 or, where it isn't `long`, of AES-128.
-/// A reply of another policy makes none.
-pub fn pulled_ring(reply: &Keys, long: bool, clock: u64) -> Result<Ring, Fault>
+/// The ring of a puller for a key group whose keys are of AES-256, or of AES-128 where it isn't `long`: a reply of the other policy
+/// makes none. The service's clock stands at `now` when it is asked, and the puller's at `clock`.
+pub fn pulled_ring(
+    service: &Service,
+    group: &Name32,
+    long: bool,
+    now: u64,
+    clock: u64,
+) -> Result<Ring, Fault>
     ensures long { IfOk result (λ ring. is_long ring ≡ long) }
 {
-    match pulled_for(long, reply, clock) {
+    match pulled_for(long, &reply_of(service, group, now)?, clock) {
         Some(ring) => Ok(ring),
         None => Err(Fault::NoRing),
     }
 }
 
-/// What the service replies when it is asked and its clock stands at `now`. Request and reply pass as bytes.
-pub fn reply_of(service: &Service, group: &Name32, now: u64) -> Result<Keys, Fault> {
+/// What the service replies. Request and reply pass as bytes.
+fn reply_of(service: &Service, group: &Name32, now: u64) -> Result<Keys, Fault> {
     let (mut request, mut reply) = ([0; REQUEST_BYTES], [0; REPLY_BYTES]);
     let end = ask(group, &mut request)?;
     let end = answer(service, now, &request[..end], &mut reply)?;

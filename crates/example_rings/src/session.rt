@@ -8,13 +8,13 @@ ghost use Rattle.device_sides.specs.Sides.{FitsKeyGroup, FitsReadGroup, HasRenew
 
 use crate::configuration::CONFIGURATION;
 use crate::fault::Fault;
-use crate::keys::{pulled_ring, reply_of, service_of};
+use crate::keys::{pulled_ring, service_of};
 use crate::tally::Tally;
 use dataset_meta::Name32;
 use dataset_reader::Why;
 use device_sides::{Next, Publisher, Subscriber};
 use group_keys::Ring;
-use key_service::{Keys, Service};
+use key_service::Service;
 use message_guard::OpenFault;
 use reader_group::Refusal;
 use std::alloc::Global;
@@ -82,10 +82,9 @@ impl Session {
     /// Each side pulls a ring by its own clock, and goes on with it. The answer is the token of the current key. What was sent under
     /// the token before has come by now: the new rings lack it.
     pub fn pull(&mut self) -> Result<u32, Fault> {
-        let now = self.moment();
-        let own = ring_for_sender(&self.publisher, &self.reply(now)?, now)?;
-        let ahead = now.saturating_add(SUBSCRIBER_AHEAD);
-        let other = ring_for_group(&self.subscriber, &self.reply(now)?, ahead)?;
+        let (service, group, now) = (&self.service, &self.group, self.moment());
+        let own = ring_for_sender(&self.publisher, service, group, now)?;
+        let other = ring_for_group(&self.subscriber, service, group, now)?;
         let [current, _] = own.key_sets() else {
             return Err(Fault::NoRing);
         };
@@ -96,19 +95,33 @@ impl Session {
         Ok(token)
     }
 
-    /// The four turns while a ring stands. Behind two of them the token rolls over, with their datagrams on their way: one comes before
-    /// the later token's first, and one behind it.
+    /// The four turns while a ring stands: the token rolls over behind two of them.
     pub fn turns(&mut self) -> Result<Tally, Fault> {
         self.tally = Tally::default();
-        let slow = self.send()?;
-        let held_back = self.send()?;
-        let first_of_later = self.send()?;
-        self.deliver(slow)?;
-        self.deliver(first_of_later)?;
-        self.deliver(held_back)?;
+        self.roll_over()?;
         let next = self.send()?;
         self.deliver(next)?;
         Ok(self.tally)
+    }
+
+    /// Two turns under a token and the later token's first one.
+    fn roll_over(&mut self) -> Result<(), Fault> {
+        let slow = self.send()?;
+        let held_back = self.send()?;
+        let first_of_later = self.send()?;
+        self.deliver_late(slow, held_back, first_of_later)
+    }
+
+    /// The datagrams of the token before were on their way: one comes before the later token's first, and one behind it.
+    fn deliver_late(
+        &mut self,
+        slow: Sent,
+        held_back: Sent,
+        first_of_later: Sent,
+    ) -> Result<(), Fault> {
+        self.deliver(slow)?;
+        self.deliver(first_of_later)?;
+        self.deliver(held_back)
     }
 
     /// The token in use, and the last number under it: what a device keeps over a restart.
@@ -123,15 +136,6 @@ impl Session {
             (Ok(row), Some(reader)) => Ok((row, reader.why())),
             _ => Err(Fault::NoRow),
         }
-    }
-
-    /// What the service replies at this moment of the publisher's clock.
-    fn reply(&self, now: u64) -> Result<Keys, Fault> {
-        reply_of(
-            &self.service,
-            &self.group,
-            now.saturating_add(SERVICE_AHEAD),
-        )
     }
 
     /// The moment of the last turn, by the publisher's clock, in milliseconds.
@@ -183,22 +187,36 @@ impl Session {
     }
 }
 
-/// The publisher's ring of this reply, with keys as long as those of its key group.
-fn ring_for_sender(publisher: &Publisher, reply: &Keys, clock: u64) -> Result<Ring, Fault>
+/// The ring that the publisher pulls at this moment, with keys as long as those of its key group.
+fn ring_for_sender(
+    publisher: &Publisher,
+    service: &Service,
+    group: &Name32,
+    now: u64,
+) -> Result<Ring, Fault>
     ensures long { IfOk result (λ ring. FitsKeyGroup publisher.now.config 0 (is_long ring)) }
 {
     match publisher.has_long_keys(0) {
-        Some(long) => pulled_ring(reply, long, clock),
+        Some(long) => pulled_ring(service, group, long, now.saturating_add(SERVICE_AHEAD), now),
         None => Err(Fault::Unlike),
     }
 }
 
-/// The subscriber's ring of this reply, with keys as long as those of its read group.
-fn ring_for_group(subscriber: &Subscriber, reply: &Keys, clock: u64) -> Result<Ring, Fault>
+/// The ring that the subscriber pulls at this moment of the publisher's clock, with keys as long as those of its read group.
+fn ring_for_group(
+    subscriber: &Subscriber,
+    service: &Service,
+    group: &Name32,
+    now: u64,
+) -> Result<Ring, Fault>
     ensures long { IfOk result (λ ring. FitsReadGroup subscriber.now.config 0 (is_long ring)) }
 {
+    let (asked, own) = (
+        now.saturating_add(SERVICE_AHEAD),
+        now.saturating_add(SUBSCRIBER_AHEAD),
+    );
     match subscriber.has_long_keys(0) {
-        Some(long) => pulled_ring(reply, long, clock),
+        Some(long) => pulled_ring(service, group, long, asked, own),
         None => Err(Fault::Unlike),
     }
 }
