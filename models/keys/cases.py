@@ -181,6 +181,13 @@ def unasked_replies():
     for count, next_, lifetime in ((2, top, top), (3, 1, top - 1), (3, 1, top), (16, 1, top // 14)):
         say(f"pull_reply {answer('aes128', 5, count, next_, lifetime).reply().hex()}")
     say(f"pull_reply {answer('aes128', 5, 2, 3, 7).reply().hex()} 00")
+    say("# pull_for LONG CLOCK BYTES: the ring for a key group of AES-256 (long) or AES-128 (short) whose clock stands there, or that there is none, since the keys have another length or moments end, or the fault")
+    for policy in POLICIES:
+        for length in ("short", "long"):
+            say(f"pull_for {length} 1000 {answer(policy, 5, 2, 3, 7).reply().hex()}")
+    for clock in (0, top - 3, top - 2):
+        say(f"pull_for long {clock} {answer('aes256', 5, 2, 3, 7).reply().hex()}")
+    say(f"pull_for long 1000 {answer('aes256', 5, 2, 3, 7).reply().hex()} 00")
     say()
 
 

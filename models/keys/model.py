@@ -44,9 +44,9 @@ class Answer:
         sets = " ".join(key.text() for key in self.keys)
         return f"{self.policy} first {self.keys[0].token} next {self.next} lifetime {self.lifetime}: {sets}"
 
-    def pulled(self):
-        """The keys with the moments of a puller, whose clock stands at 0 when it is answered."""
-        return [key.at(0 if i == 0 else self.next + (i - 1) * self.lifetime) for i, key in enumerate(self.keys)]
+    def pulled(self, clock=0):
+        """The keys with the moments of a puller, whose clock stands there when it is answered."""
+        return [key.at(0 if i == 0 else clock + self.next + (i - 1) * self.lifetime) for i, key in enumerate(self.keys)]
 
     def reply(self):
         head = string(POLICIES[self.policy]) + struct.pack("<II", self.keys[0].token, len(self.keys))
@@ -203,6 +203,13 @@ class Bench:
     def pull_reply(self, *words):
         keys = read_reply(unhex(words)).pulled()
         return " ".join(key.text() for key in keys) if is_ring(keys) else "no ring"
+
+    def pull_for(self, long, clock, *words):
+        answer = read_reply(unhex(words))
+        keys = answer.pulled(int(clock))
+        fits = (answer.policy == "aes256") == (long == "long")
+        ends = any(key.moment >= 1 << 64 for key in keys)
+        return " ".join(key.text() for key in keys) if fits and not ends and is_ring(keys) else "no ring"
 
 
 def main():

@@ -20,7 +20,7 @@ pub record StaysClosed (before after : Wire) : Type 0 where
   pub openings : after.openings ≡ before.openings
   pub rose : Rose before.faults after.faults
 
--- `lab` was opened before `wire`; where it can't be opened, `wire` is left alone
+-- either `lab` can't be opened and `wire` is left alone, or `wire` can't be
 abbrev pub LeavesUnopened : Wire → Wire → Wire → Wire → Type 0
 LeavesUnopened lab lab_after wire wire_after =
     (StaysClosed lab lab_after × (wire_after ≡ wire)) ⊎ StaysClosed wire wire_after

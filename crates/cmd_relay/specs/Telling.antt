@@ -71,9 +71,9 @@ pub record HasLine (text : List ℕ) (Tells : List ℕ → Type 0) : Type 0 wher
   pub whole : text ≡ front ++ line ++ behind
   pub tells : Tells line
 
--- The text of a relay has a line of each writer, and one of each reader that is matched within the second configuration and goes by numbers. From one moment of the relay to
--- a later one the store and the version that such a reader holds don't fall, where neither it nor its source was cut. The reader's read group takes nothing but
--- what was sent, and for versions so does the source's.
+-- The text of a relay has a line of each writer, and one of each reader that is matched within the second configuration and goes by numbers, where its read group takes
+-- nothing but what was sent. From one moment of the relay to a later one the store and the version that such a reader holds don't fall, where the source's read group
+-- takes nothing else too, and neither the reader nor its source was cut.
 pub record TellsRelay (p : Plan) (second : Config) (sources : List Source) (relay : List RelayStep) (rows : ℕ → ℕ → List DataValue) (text : List ℕ) : Type 0 where
   pub writers : (g w : ℕ) → w < length (group_at second g).writer → HasLine text (TellsStores p second sources relay rows g w)
   pub readers : (r i g w : ℕ) → IsNumbered second r i g w → IsHonestAgain second r relay

@@ -117,24 +117,8 @@ fn open_both<A: Link, B: Link>(
 {
     let port = accepted.first.publisher.port;
     open_link(lab, port, &accepted.script.fates(alloc)?)?;
-    open_again(wire, &accepted.second)?;
+    open_link(wire, accepted.second.publisher.port, &[])?;
     Ok(())
-}
-
-/// Opens the link of the second configuration, with its port and without fates.
-fn open_again<L: Link>(link: &mut L, second: &Config) -> Result<(), PlayEnd>
-    ensures opened { OnOk result (L.opened_with link.new ≡ Some (opening_again second.now)) }
-    ensures empty { OnOk result (IsUntold (L.told link.new)) }
-    ensures refused { OnErr result ((L.told link.new ≡ L.told link.old)
-        × (L.opened_with link.new ≡ L.opened_with link.old)) }
-    ensures making { L.made link.new ≡ L.made link.old }
-    ensures counted { L.openings link.new ≡ counted_if (is_ok result) (L.openings link.old) }
-    ensures lasts { TellsOn L.told L.patience 0 link.old link.new }
-    ensures unopened { result ≡ Err PlayEnd.Unopened
-        → Rose (L.faults link.old) (L.faults link.new) }
-    ensures faults { L.faults link.old ≤ L.faults link.new }
-{
-    open_link(link, second.publisher.port, &[])
 }
 
 /// Opens a link, or says why it isn't open.

@@ -317,6 +317,14 @@ abbrev pub ReadsNoKeys : Config → ℕ → Type 0
 ReadsNoKeys config group =
     (keygroup : ℕ) → IsKeyedBy config group keygroup → length config.keygroup ≤ keygroup
 
+-- where there is a key group with this index, its keys are as long
+abbrev pub FitsKeyGroup : Config → ℕ → Bool → Type 0
+FitsKeyGroup config keygroup long = keygroup < length config.keygroup → HasLongKeys config keygroup long
+
+-- the read group with this index is secured with keys as long, or isn't secured, or not there
+abbrev pub FitsReadGroup : Config → ℕ → Bool → Type 0
+FitsReadGroup config group long = ReadsLongKeys config group long ⊎ ReadsNoKeys config group
+
 -- ---- a subscriber
 
 -- its group is of this configuration, at this place, with a truth value for each reader

@@ -2,12 +2,12 @@
 ghost use Rattle.std.specs.Prelude.{◌≡◌, ◌↔◌, ◌<◌, ◌≤◌, ◌+◌, ◌⊎◌, ◌||◌, [], IsTrue, IfOk, IfErr, IfSome, IfNone, Ok, length, slice_index_or};
 ghost use Rattle.std.specs.Bool.{OnTrue, OnFalse};
 ghost use Rattle.std.specs.List.{AllZip};
-ghost use Rattle.group_keys.specs.Ring.{key_sets};
+ghost use Rattle.group_keys.specs.Ring.{is_long, key_sets};
 ghost use Rattle.ps_config.specs.Reading.{configuration, IsEnd};
 ghost use Rattle.writer_group.specs.Standing.{IsGood, IsReserved, datagrams_in};
 ghost use Rattle.device_sides.specs.Coming.{Comes, HasCome, IsWaiting};
 ghost use Rattle.device_sides.specs.Looking.{Counts, HasLooked};
-ghost use Rattle.device_sides.specs.Sides.{AreOpeningSides, HasField, HasLongKeys, HasNoField, HasNoWriter, HasRenewed, HasSet, HasSetStatus, HasSetWord, HasWriterSwitched, IsBehind, IsBehindConfigured, IsEarlier, IsMisfit, IsNoLower, IsOpeningRow, IsOpeningSender, IsPublisher, IsStatusMisfit, IsWordMisfit, MayNotResume, MayNotResumeConfigured, StandsAt};
+ghost use Rattle.device_sides.specs.Sides.{AreOpeningSides, FitsKeyGroup, HasField, HasLongKeys, HasNoField, HasNoWriter, HasRenewed, HasSet, HasSetStatus, HasSetWord, HasWriterSwitched, IsBehind, IsBehindConfigured, IsEarlier, IsMisfit, IsNoLower, IsOpeningRow, IsOpeningSender, IsPublisher, IsStatusMisfit, IsWordMisfit, MayNotResume, MayNotResumeConfigured, StandsAt};
 
 use crate::asked::Next;
 use crate::looking::{Looked, is_held, look};
@@ -194,10 +194,11 @@ impl Publisher {
         Some(self.senders[index].standing())
     }
 
-    /// The key group with this index goes on with another ring of the same key length (`Sender::renew`). False, and nothing changes,
-    /// where there is no such key group.
+    /// The key group with this index goes on with another ring (`Sender::renew`), whose keys have to be as long as the key group's:
+    /// `has_long_keys` tells how long these are. False, and nothing changes, where there is no such key group.
     pub fn renew(&mut self, keygroup: u8, ring: Ring) -> bool
-        requires { IsPublisher self.old }
+        requires publisher { IsPublisher self.old }
+        requires long { FitsKeyGroup self.old.config keygroup (is_long ring) }
         ensures publisher { IsPublisher self.new }
         ensures renewed { OnTrue result (HasRenewed keygroup (key_sets ring) self.old self.new) }
         ensures not { OnFalse result (self.new ≡ self.old) }
@@ -238,11 +239,12 @@ impl Publisher {
         self.go_on(keygroup, now, used, ring)
     }
 
-    /// The same with the key sets of this ring, of the same key length, as `renew` gave them before a restart: behind the token and the
-    /// number that `standing` told last. False also where the last key set whose moment has come is of an earlier token: the numbers
-    /// that were used under it aren't known. Under a later token so many numbers are passed over.
+    /// The same with the key sets of this ring, as `renew` gave them before a restart and with keys as long as it asks for: behind the
+    /// token and the number that `standing` told last. False also where the last key set whose moment has come is of an earlier token:
+    /// the numbers that were used under it aren't known. Under a later token so many numbers are passed over.
     pub fn resume_with(&mut self, keygroup: u8, now: u64, token: u32, used: u32, ring: Ring) -> bool
-        requires { IsPublisher self.old }
+        requires publisher { IsPublisher self.old }
+        requires long { FitsKeyGroup self.old.config keygroup (is_long ring) }
         ensures publisher { IsPublisher self.new }
         ensures behind { OnTrue result
             (IsBehind keygroup now used (key_sets ring) self.old self.new) }

@@ -1,7 +1,7 @@
 //! Subscribers.
 ghost use Rattle.std.specs.Prelude.{◌≡◌, ◌<◌, ◌≤◌, Ok, IfOk, IfErr, IfSome, IfNone, length, map};
 ghost use Rattle.std.specs.Bool.{OnFalse, OnTrue};
-ghost use Rattle.group_keys.specs.Ring.{key_sets};
+ghost use Rattle.group_keys.specs.Ring.{is_long, key_sets};
 ghost use Rattle.message_guard.specs.Protection.{keys_in};
 ghost use Rattle.reader_group.specs.Groups as reads;
 ghost use Rattle.ps_config.specs.Reading.{configuration, IsEnd};
@@ -9,7 +9,7 @@ ghost use Rattle.ps_config.specs.Sound.{IsSound};
 ghost use Rattle.writer_group.specs.Standing.{IsGood};
 ghost use Rattle.row_words.specs.Words.{scalar_in};
 ghost use Rattle.device_sides.specs.Readings.{HasFieldStatus, HasFieldValue, HasKeysRenewed, HasNoMisfit, HasReaderSwitched, HaveExpired, IsNoReader, IsOfKind, IsOfOtherKind, IsReaderAt, IsUntold, IsUntoldAt, Keeps, ReaderKeeps, meta_for};
-ghost use Rattle.device_sides.specs.Sides.{AreOpeningListenings, HasListened, IsListening, IsSubscriber, ReadsLongKeys, ReadsNoKeys};
+ghost use Rattle.device_sides.specs.Sides.{AreOpeningListenings, FitsReadGroup, HasListened, IsListening, IsSubscriber, ReadsLongKeys, ReadsNoKeys};
 
 use crate::asked::NoValue;
 use crate::listening::Listening;
@@ -160,10 +160,12 @@ impl Subscriber {
         }
     }
 
-    /// The read group with this index goes on with another ring of the same key length (`ReaderGroup::renew`). False, and nothing
-    /// changes, where there is no such read group.
+    /// The read group with this index goes on with another ring (`ReaderGroup::renew`). Where it is secured the ring's keys have to be
+    /// as long as those of its key group: `has_long_keys` tells how long these are. False, and nothing changes, where there is no such
+    /// read group.
     pub fn renew(&mut self, group: u8, ring: Ring) -> bool
-        requires { IsSubscriber self.old }
+        requires subscriber { IsSubscriber self.old }
+        requires long { FitsReadGroup self.old.config group (is_long ring) }
         ensures subscriber { IsSubscriber self.new }
         ensures renewed { OnTrue result
             (HasKeysRenewed group (map keys_in (key_sets ring)) self.old self.new) }

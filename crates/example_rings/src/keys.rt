@@ -1,11 +1,14 @@
 //! The key service of a security group, and the rings that are pulled of it (OPC 10000-14 8.3.2, GetSecurityKeys).
 ghost use Rattle.std.specs.Prelude.{◌≡◌, ◌≤◌, IfOk, length};
+ghost use Rattle.group_keys.specs.Ring.{is_long};
 
 use crate::fault::Fault;
 use arrayvec::ArrayVec;
 use dataset_meta::Name32;
 use group_keys::{KeySet, Ring};
-use key_service::{Service, pulled_at, read_reply, read_request, write_reply, write_request};
+use key_service::{
+    Keys, Service, pulled_for, read_reply, read_request, write_reply, write_request,
+};
 use ua_binary::Pen;
 
 /// How many keys the service has, of the tokens from 1 on.
@@ -24,12 +27,29 @@ const REQUEST_BYTES: usize = 44;
 
 const REPLY_BYTES: usize = 1197;
 
-/// The ring of a puller: the service's clock stands at `now` when it is asked, and the puller's at `clock`.
-pub fn pulled_ring(service: &Service, group: &Name32, now: u64, clock: u64) -> Result<Ring, Fault> {
+/// The ring of a puller for a key group whose keys are of AES-256, or of AES-128 where it isn't `long`: a reply of the other policy
+/// makes none. The service's clock stands at `now` when it is asked, and the puller's at `clock`.
+pub fn pulled_ring(
+    service: &Service,
+    group: &Name32,
+    long: bool,
+    now: u64,
+    clock: u64,
+) -> Result<Ring, Fault>
+    ensures long { IfOk result (λ ring. is_long ring ≡ long) }
+{
+    match pulled_for(long, &reply_of(service, group, now)?, clock) {
+        Some(ring) => Ok(ring),
+        None => Err(Fault::NoRing),
+    }
+}
+
+/// What the service replies. Request and reply pass as bytes.
+fn reply_of(service: &Service, group: &Name32, now: u64) -> Result<Keys, Fault> {
     let (mut request, mut reply) = ([0; REQUEST_BYTES], [0; REPLY_BYTES]);
     let end = ask(group, &mut request)?;
     let end = answer(service, now, &request[..end], &mut reply)?;
-    pulled_at(&read_reply(&reply[..end])?, clock).ok_or(Fault::NoRing)
+    Ok(read_reply(&reply[..end])?)
 }
 
 /// Lays the request in front, and tells where it ends.

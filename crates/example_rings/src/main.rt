@@ -40,15 +40,13 @@ fn main(rt: HostRuntime) -> ExitCode {
 /// Prints a line for each ring, and one for all. The answer is whether all went as expected.
 fn run<R: Print>(rt: &R, alloc: Global) -> Result<bool, Fault> {
     let mut session = Session::open(alloc)?;
+    all_rings(rt, &mut session)
+}
+
+fn all_rings<R: Print>(rt: &R, session: &mut Session) -> Result<bool, Fault> {
     let (mut total, mut as_expected) = (Tally::default(), true);
     for index in 0..RINGS {
-        let from = session.pull()?;
-        let tally = session.turns()?;
-        let ((to, _), (row, why)) = (session.standing()?, session.held()?);
-        println!(rt;
-            "ring {}: token {from} to {to}, {tally}; holds row {row}, cut by {why}",
-            index + 1
-        )?;
+        let tally = one_ring(rt, session, index + 1)?;
         total.add(&tally);
         as_expected = as_expected && tally == EXPECTED;
     }
@@ -58,4 +56,13 @@ fn run<R: Print>(rt: &R, alloc: Global) -> Result<bool, Fault> {
         "{word} expected: {RINGS} rings, {total}; the sender stands at token {token}, number {number}"
     )?;
     Ok(as_expected)
+}
+
+/// Each side pulls a ring, the turns come while it stands, and its line tells of them.
+fn one_ring<R: Print>(rt: &R, session: &mut Session, index: u32) -> Result<Tally, Fault> {
+    let from = session.pull()?;
+    let tally = session.turns()?;
+    let ((to, _), (row, why)) = (session.standing()?, session.held()?);
+    println!(rt; "ring {index}: token {from} to {to}, {tally}; holds row {row}, cut by {why}")?;
+    Ok(tally)
 }

@@ -1,10 +1,10 @@
 //! The session of a publisher and a subscriber, and the datagrams between them.
-ghost use Rattle.std.specs.Prelude.{map};
+ghost use Rattle.std.specs.Prelude.{IfOk, map};
 ghost use Rattle.std.specs.Bool.{OnTrue};
-ghost use Rattle.group_keys.specs.Ring.{key_sets};
+ghost use Rattle.group_keys.specs.Ring.{is_long, key_sets};
 ghost use Rattle.message_guard.specs.Protection.{keys_in};
 ghost use Rattle.device_sides.specs.Readings.{HasKeysRenewed};
-ghost use Rattle.device_sides.specs.Sides.{HasRenewed, IsPublisher, IsSubscriber};
+ghost use Rattle.device_sides.specs.Sides.{FitsKeyGroup, FitsReadGroup, HasRenewed, IsPublisher, IsSubscriber};
 
 use crate::configuration::CONFIGURATION;
 use crate::fault::Fault;
@@ -83,9 +83,8 @@ impl Session {
     /// the token before has come by now: the new rings lack it.
     pub fn pull(&mut self) -> Result<u32, Fault> {
         let (service, group, now) = (&self.service, &self.group, self.moment());
-        let asked = now.saturating_add(SERVICE_AHEAD);
-        let own = pulled_ring(service, group, asked, now)?;
-        let other = pulled_ring(service, group, asked, now.saturating_add(SUBSCRIBER_AHEAD))?;
+        let own = ring_for_sender(&self.publisher, service, group, now)?;
+        let other = ring_for_group(&self.subscriber, service, group, now)?;
         let [current, _] = own.key_sets() else {
             return Err(Fault::NoRing);
         };
@@ -96,19 +95,33 @@ impl Session {
         Ok(token)
     }
 
-    /// The four turns while a ring stands. Behind two of them the token rolls over, with their datagrams on their way: one comes before
-    /// the later token's first, and one behind it.
+    /// The four turns while a ring stands: the token rolls over behind two of them.
     pub fn turns(&mut self) -> Result<Tally, Fault> {
         self.tally = Tally::default();
-        let slow = self.send()?;
-        let held_back = self.send()?;
-        let first_of_later = self.send()?;
-        self.deliver(slow)?;
-        self.deliver(first_of_later)?;
-        self.deliver(held_back)?;
+        self.roll_over()?;
         let next = self.send()?;
         self.deliver(next)?;
         Ok(self.tally)
+    }
+
+    /// Two turns under a token and the later token's first one.
+    fn roll_over(&mut self) -> Result<(), Fault> {
+        let slow = self.send()?;
+        let held_back = self.send()?;
+        let first_of_later = self.send()?;
+        self.deliver_late(slow, held_back, first_of_later)
+    }
+
+    /// The datagrams of the token before were on their way: one comes before the later token's first, and one behind it.
+    fn deliver_late(
+        &mut self,
+        slow: Sent,
+        held_back: Sent,
+        first_of_later: Sent,
+    ) -> Result<(), Fault> {
+        self.deliver(slow)?;
+        self.deliver(first_of_later)?;
+        self.deliver(held_back)
     }
 
     /// The token in use, and the last number under it: what a device keeps over a restart.
@@ -174,10 +187,46 @@ impl Session {
     }
 }
 
+/// The ring that the publisher pulls at this moment, with keys as long as those of its key group.
+fn ring_for_sender(
+    publisher: &Publisher,
+    service: &Service,
+    group: &Name32,
+    now: u64,
+) -> Result<Ring, Fault>
+    ensures long { IfOk result (λ ring. FitsKeyGroup publisher.now.config 0 (is_long ring)) }
+{
+    match publisher.has_long_keys(0) {
+        Some(long) => pulled_ring(service, group, long, now.saturating_add(SERVICE_AHEAD), now),
+        None => Err(Fault::Unlike),
+    }
+}
+
+/// The ring that the subscriber pulls at this moment of the publisher's clock, with keys as long as those of its read group.
+fn ring_for_group(
+    subscriber: &Subscriber,
+    service: &Service,
+    group: &Name32,
+    now: u64,
+) -> Result<Ring, Fault>
+    ensures long { IfOk result (λ ring. FitsReadGroup subscriber.now.config 0 (is_long ring)) }
+{
+    let (asked, own) = (
+        now.saturating_add(SERVICE_AHEAD),
+        now.saturating_add(SUBSCRIBER_AHEAD),
+    );
+    match subscriber.has_long_keys(0) {
+        Some(long) => pulled_ring(service, group, long, asked, own),
+        None => Err(Fault::Unlike),
+    }
+}
+
 /// The sender of the publisher's key group goes on with its own ring, and the read group with the other.
 fn renew(publisher: &mut Publisher, subscriber: &mut Subscriber, own: Ring, other: Ring) -> bool
     requires publisher { IsPublisher publisher.old }
     requires subscriber { IsSubscriber subscriber.old }
+    requires own_long { FitsKeyGroup publisher.old.config 0 (is_long own) }
+    requires other_long { FitsReadGroup subscriber.old.config 0 (is_long other) }
     ensures publisher { IsPublisher publisher.new }
     ensures subscriber { IsSubscriber subscriber.new }
     ensures sender { OnTrue result (HasRenewed 0 (key_sets own) publisher.old publisher.new) }

@@ -103,9 +103,10 @@ IsNoOlder p second source newer older r i g w =
 
 -- ---- the whole
 
--- THE GATEWAY. Each data frame of its writers tells the number of its source's stores at its round, and publishes that store's row, whose version is known; the stores of
--- a writer never fall. Each reader that is matched within the second configuration, and goes by numbers, holds the row of the store that its number names, whose version
--- is known, or waits. From one moment to a later one what it holds gets no older, where neither it nor its source was cut.
+-- THE GATEWAY. Each data frame of its writers tells the number of its source's stores at its round, and publishes that store's row, whose version is known where the
+-- source's read group takes nothing but what was sent; the stores of a writer never fall. Each reader that is matched within the second configuration, and goes by
+-- numbers, holds the row of the store that its number names, or waits, where its read group takes nothing but what was sent. From one moment to a later one what it
+-- holds gets no older, where both read groups take nothing else, and neither it nor its source was cut.
 pub record TellsGateway (p : Plan) (second : Config) (sources : List Source) (relay : List RelayStep) (rows : ℕ → ℕ → List DataValue) : Type 0 where
   pub stores : (g w place store : ℕ) → w < length (group_at second g).writer → Contains (log_at (plan_again second) g w (seconds relay)) (place, store)
       → TellsStore p second sources relay rows g w place store

@@ -19,7 +19,7 @@ pub use laws::{
     a_written_answer_is_pulled, a_written_reply_is_read, a_written_request_is_read,
     an_answer_is_a_reply, the_keys_of_covered_moments_are_pulled,
 };
-pub use puller::{can_be_pulled, pulled, pulled_at};
+pub use puller::{can_be_pulled, pulled, pulled_at, pulled_for};
 pub use reading::{Request, read_reply, read_request};
 pub use service::{Keys, Service};
 pub use service_fault::{KeyFault, ServiceFault};

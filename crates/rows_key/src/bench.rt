@@ -1,7 +1,7 @@
 //! The calls by their names, and the service that the lines speak of.
 use crate::answers::{get, pull, reply};
 use crate::rings::ring_of;
-use crate::wire::{pull_reply, read_reply_row, read_request_row, request};
+use crate::wire::{pull_for, pull_reply, read_reply_row, read_request_row, request};
 use case_lines::{Answer, Answers, Line, LineFault, refused, said};
 use dataset_meta::Name32;
 use key_service::Service;
@@ -22,6 +22,7 @@ impl<R> Answers<R> for Bench {
             "read_request" => read_request_row(self.alloc, line),
             "read_reply" => read_reply_row(self.alloc, line),
             "pull_reply" => pull_reply(self.alloc, line),
+            "pull_for" => pull_for(self.alloc, line),
             call => self.call(call, line),
         }
     }

@@ -2,7 +2,9 @@
 use crate::bench::name_of;
 use crate::shown::{ShownKeys, ShownSets, written};
 use case_lines::{Answer, Line, refused, said, told};
-use key_service::{Keys, can_be_pulled, pulled, read_reply, read_request, write_request};
+use key_service::{
+    Keys, can_be_pulled, pulled, pulled_for, read_reply, read_request, write_request,
+};
 use std::alloc::Global;
 use ua_binary::Pen;
 
@@ -57,4 +59,18 @@ fn pulled_ring(alloc: Global, keys: &Keys) -> Answer {
     }
     let ring = pulled(keys);
     told(alloc, &ShownSets(ring.key_sets()))
+}
+
+/// `pull_for LONG CLOCK BYTES`: the ring of the reply for a key group whose keys are of AES-256 (`long`) or not, or that there is none
+pub fn pull_for(alloc: Global, line: &mut Line) -> Answer {
+    let long = line.word()? == "long";
+    let clock = line.u64()?;
+    let bytes = line.bytes(alloc)?;
+    match read_reply(&bytes) {
+        Ok(keys) => match pulled_for(long, &keys, clock) {
+            Some(ring) => told(alloc, &ShownSets(ring.key_sets())),
+            None => said(alloc, "no ring"),
+        },
+        Err(fault) => refused(alloc, &fault),
+    }
 }

@@ -354,14 +354,14 @@ impl Publisher {
         match link.send(self.out.get(i)) {
             Sent::Done => self.note(g, true),
             Sent::Failed => self.note(g, false),
-            Sent::Memory => Ticked::Memory,
+            Sent::Memory => return Ticked::Memory,
         }
+        Ticked::Done
     }
 
     /// Counts a send of a group.
-    fn note(&mut self, g: usize, is_done: bool) -> Ticked
+    fn note(&mut self, g: usize, is_done: bool)
         requires { g < vec_len self.old.sends }
-        ensures done { result ≡ Ticked.Done }
         ensures noted { HasNoted g is_done self.old self.new }
         ensures count { vec_len self.new.sends ≡ vec_len self.old.sends }
         ensures rest { self.new ≡ record self.old {
@@ -371,7 +371,6 @@ impl Publisher {
     {
         self.sends[g].note(is_done);
         self.link.note(is_done);
-        Ticked::Done
     }
 }
 

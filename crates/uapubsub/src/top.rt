@@ -52,8 +52,9 @@ pub fn top<R: Threads + Wait + Sync, F: Folder, A: Link, B: Link, G: Gate, K: Si
         (wire_of B.told B.patience B.faults B.opened_with B.made B.openings wire.new)))
         result (E.written err.old) (E.written err.new) (E.faults err.old) (E.faults err.new) }
 
-    // Each data message stands for one whole version, and each reader holds the one that its messages name: of the history that
-    // the script's writes make in the order of its lines, or, where threads make them, of a legal one.
+    // Each data message stands for one whole version, and each matched reader whose read group takes nothing but what was sent
+    // holds the one that its messages name, or has said why it waits: of the history that the script's writes make in the order
+    // of its lines, or, where threads make them, of a legal one.
     ensures played { (script : List ℕ) (config : Option (List ℕ))
         → shape_of words.now ≡ Some (Play script config) → result ≡ 0
         → WritesPlay script config
@@ -67,8 +68,10 @@ pub fn top<R: Threads + Wait + Sync, F: Folder, A: Link, B: Link, G: Gate, K: Si
         (outside_of F.tells F.faults K.written K.faults folder.new out.new)
         (wire_of B.told B.patience B.faults B.opened_with B.made B.openings wire.new) }
 
-    // Each data frame of a gateway has the number of its source's stores, and the row of that store, whose version is told; and
-    // each reader holds the row of the store and version that are printed, which don't fall.
+    // Each data frame of a gateway has the number of its source's stores, and the row of that store, whose version is known
+    // where the source's read group takes nothing but what was sent. Each matched reader that goes by numbers, and whose read
+    // group takes nothing but what was sent, holds the row of the store and version that are printed, or has said why it waits;
+    // these don't fall where the source's takes nothing else too and nothing was cut.
     ensures relayed { (script first second : List ℕ)
         → shape_of words.now ≡ Some (Relay script first second) → result ≡ 0
         → WritesRelay (names_of script first second)

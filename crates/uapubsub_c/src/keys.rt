@@ -1,7 +1,7 @@
 //! Key sets that C gives.
 ghost use Rattle.std.specs.Prelude.{◌≡◌, ◌≤◌, IfNone, IfSome, length, take};
 ghost use Rattle.group_keys.specs.KeySets.{encrypting_length};
-ghost use Rattle.group_keys.specs.Ring.{key_sets};
+ghost use Rattle.group_keys.specs.Ring.{is_long, key_sets};
 ghost use Rattle.uapubsub_c.specs.Keys.{MakeNoRing, key_set_in, key_sets_in};
 
 use arrayvec::ArrayVec;
@@ -29,6 +29,7 @@ pub struct KeySetWords {
 /// The ring of these sets, if they make one. A long ring has keys of AES-256.
 pub fn ring_of_words(long: bool, sets: &[KeySetWords]) -> Option<Ring>
     ensures sets { IfSome result (λ ring. key_sets ring ≡ key_sets_in long sets.now) }
+    ensures long { IfSome result (λ ring. is_long ring ≡ long) }
     ensures none { IfNone result (MakeNoRing long sets.now) }
 {
     if sets.len() > MOST_SETS {

@@ -1,6 +1,6 @@
 use Rattle.std.proofs.Common.{List, subst, sym, arith}
 use Rattle.group_keys.specs.declared.key_set.KeySet.{KeySet}
-use Rattle.device_sides.specs.Sides.{HasRenewed, IsPublisher}
+use Rattle.device_sides.specs.Sides.{HasLongKeys, HasRenewed, IsPublisher}
 use Rattle.uapubsub_c.specs.Getting.{PublisherIs, PublisherMoves}
 use Rattle.uapubsub_c.specs.Handles.{IsSound}
 use Rattle.uapubsub_c.specs.Keys.{HasNoKeyGroup, HasRenewedTo, MakesNoRing}
@@ -8,6 +8,9 @@ use Rattle.uapubsub_c.specs.declared.kept.Kept.{Kept}
 use Rattle.uapubsub_c.specs.declared.kept.Kept.TheVariants.{Publisher}
 use Rattle.uapubsub_c.proofs.Telling.{not-publisher}
 use Rattle.uapubsub_c.proofs.publishing.renew_in.Goals as goal
+
+pub renew-requires-clause-long : goal.renew-requires-clause-long
+renew-requires-clause-long c = λ _. subst (HasLongKeys c.in-Publisher.publisher.config c.args.keygroup) (sym c.in-Some-ring_of_words.ensures.long) c.in-Some.ensures.long
 
 pub returns-then-renew-clause-renewed : goal.returns-then-renew-clause-renewed
 returns-then-renew-clause-renewed c = λ ok.

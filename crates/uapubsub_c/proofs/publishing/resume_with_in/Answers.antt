@@ -1,12 +1,15 @@
 use Rattle.std.proofs.Common.{◌⊎◌, List, inl, inr, subst, sym}
 use Rattle.group_keys.specs.declared.key_set.KeySet.{KeySet}
-use Rattle.device_sides.specs.Sides.{IsBehind, IsEarlier, MayNotResume}
+use Rattle.device_sides.specs.Sides.{HasLongKeys, IsBehind, IsEarlier, MayNotResume}
 use Rattle.uapubsub_c.specs.Getting.{PublisherIs, PublisherMoves}
 use Rattle.uapubsub_c.specs.Keys.{HasNoKeyGroup, IsBehindWith, MayNotResumeWith}
 use Rattle.uapubsub_c.specs.declared.kept.Kept.{Kept}
 use Rattle.uapubsub_c.specs.declared.kept.Kept.TheVariants.{Publisher}
 use Rattle.uapubsub_c.proofs.Telling.{not-publisher}
 use Rattle.uapubsub_c.proofs.publishing.resume_with_in.Goals as goal
+
+pub resume_with-requires-clause-long : goal.resume_with-requires-clause-long
+resume_with-requires-clause-long c = λ _. subst (HasLongKeys c.in-Publisher.publisher.config c.args.keygroup) (sym c.in-Some-ring_of_words.ensures.long) c.in-Some.ensures.long
 
 pub returns-then-resume_with-clause-behind : goal.returns-then-resume_with-clause-behind
 returns-then-resume_with-clause-behind c = λ ok.

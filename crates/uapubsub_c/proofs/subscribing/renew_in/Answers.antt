@@ -2,12 +2,16 @@ use Rattle.std.proofs.Common.{List, inl, inr, map, subst, sym}
 use Rattle.group_keys.specs.declared.key_set.KeySet.{KeySet}
 use Rattle.message_guard.specs.Protection.{keys_in}
 use Rattle.device_sides.specs.Readings.{HasKeysRenewed}
+use Rattle.device_sides.specs.Sides.{ReadsLongKeys}
 use Rattle.uapubsub_c.specs.Getting.{SubscriberIs, SubscriberMoves}
 use Rattle.uapubsub_c.specs.Keys.{HasKeysRenewedTo, HasNoSecuredReadGroup, MakesNoRingRead}
 use Rattle.uapubsub_c.specs.declared.kept.Kept.{Kept}
 use Rattle.uapubsub_c.specs.declared.kept.Kept.TheVariants.{Subscriber}
 use Rattle.uapubsub_c.proofs.Telling.{not-subscriber}
 use Rattle.uapubsub_c.proofs.subscribing.renew_in.Goals as goal
+
+pub renew-requires-clause-long : goal.renew-requires-clause-long
+renew-requires-clause-long c = inl (subst (ReadsLongKeys c.in-Subscriber.subscriber.config c.args.group) (sym c.in-Some-ring_of_words.ensures.long) c.in-Some.ensures.long)
 
 pub returns-then-renew-clause-renewed : goal.returns-then-renew-clause-renewed
 returns-then-renew-clause-renewed c = λ ok.
