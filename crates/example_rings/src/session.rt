@@ -82,9 +82,9 @@ impl Session {
     /// Each side pulls a ring by its own clock, and goes on with it. The answer is the token of the current key. What was sent under
     /// the token before has come by now: the new rings lack it.
     pub fn pull(&mut self) -> Result<u32, Fault> {
-        let (service, group, now) = (&self.service, &self.group, self.moment());
-        let own = ring_for_sender(&self.publisher, service, group, now)?;
-        let other = ring_for_group(&self.subscriber, service, group, now)?;
+        let now = self.moment();
+        let own = ring_for_sender(&self.publisher, &self.service, &self.group, now)?;
+        let other = ring_for_group(&self.subscriber, &self.service, &self.group, now)?;
         let [current, _] = own.key_sets() else {
             return Err(Fault::NoRing);
         };
