@@ -8,5 +8,8 @@ use Rattle.example_rings.proofs.session.ring_for_group.Goals as goal
 pub returns-in-Some : goal.returns-in-Some
 returns-in-Some c =
     let config = c.args.subscriber.now.config in
-    IfOk-weaker c.pulled_ring.result (λ (ring : Ring). is_long ring ≡ c.in-Some.long) (λ (ring : Ring). FitsReadGroup config 0 (is_long ring))
-    (λ ring same. inl (subst (ReadsLongKeys config 0) (sym same) c.in-Some.ensures.long)) c.pulled_ring.ensures.long
+    record {
+      long =
+          IfOk-weaker c.pulled_ring.result (λ (ring : Ring). is_long ring ≡ c.in-Some.long) (λ (ring : Ring). FitsReadGroup config 0 (is_long ring))
+          (λ ring same. inl (subst (ReadsLongKeys config 0) (sym same) c.in-Some.ensures.long)) c.pulled_ring.ensures.long;
+    }
