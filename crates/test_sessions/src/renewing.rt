@@ -1,5 +1,6 @@
 //! A session whose key group is renewed while it runs.
 ghost use Rattle.std.specs.Prelude.{IsSome, OnOk};
+ghost use Rattle.ua_base.specs.Fates.{AreFates};
 ghost use Rattle.writer_group.specs.Standing.{IsGood};
 ghost use Rattle.test_sessions.specs.Devices.{IsDevice};
 
@@ -149,6 +150,7 @@ pub(crate) fn empty_link(alloc: Global) -> MemoryLink {
 
 /// Opens a link that loses nothing, and gives its datagrams these fates.
 pub(crate) fn opens<L: Link>(rt: &impl Abort, link: &mut L, fates: &[(u64, Fate)])
+    requires { AreFates fates.now }
     ensures { IsSome (L.opened_with link.new) }
 {
     let opened = link.open(4840, fates);
