@@ -38,7 +38,8 @@ pub fn relay<'w, R: Wait, F: Folder, A: Link, B: Link, K: Sink>(
         (wire_of A.told A.patience A.faults A.opened_with A.made A.openings lab.new)
         (wire_of B.told B.patience B.faults B.opened_with B.made B.openings wire.old)
         (wire_of B.told B.patience B.faults B.opened_with B.made B.openings wire.new) }
-    // What the gateway publishes and holds is of the history that the script writes.
+    // Where the source's read group takes nothing but what was sent, what the gateway publishes is of the history that the script
+    // writes; where the reader's does too, so is what a matched reader that goes by numbers holds.
     ensures relayed { IsDone result → WritesRelay (names_of script.now first.now second.now)
         (outside_of F.tells F.faults K.written K.faults folder.old out.old)
         (outside_of F.tells F.faults K.written K.faults folder.new out.new)

@@ -103,7 +103,8 @@ pub fn what_is_stored_was_published()
     matched_readers_hold_published_versions();
 }
 
-/// A reader that isn't cut between two moments of a session doesn't hold an older version at the later one than at the earlier.
+/// A reader that goes by numbers, and isn't cut between two moments of a session, doesn't hold an older version at the later one than
+/// at the earlier.
 pub fn an_uncut_reader_never_holds_an_older_version()
     ensures { (p : Plan) (r i g w : ℕ) (later now : List Step) (one other : ℕ)
         → InSession p r i g w (later ++ now)
@@ -119,9 +120,10 @@ pub fn an_uncut_reader_never_holds_an_older_version()
     a_session_has_at_most_4097_ticks();
 }
 
-/// From one moment of a relay to a later one the store that the second reader holds doesn't fall, where that reader isn't cut
-/// between them; nor does the version that the store came with, where the source isn't cut between the making of the two stores.
-/// So the version that is printed doesn't fall, where the source isn't cut after the making of the store that was held earlier.
+/// From one moment of a relay to a later one the store that the second reader holds, which goes by numbers, doesn't fall, where that
+/// reader isn't cut between them; nor does the version that the store came with, where the source isn't cut between the making of
+/// the two stores. So the version that is printed doesn't fall, where the source isn't cut after the making of the store that was
+/// held earlier.
 pub fn a_relayed_version_never_falls()
     ensures stores { (p : Plan) (second : Config) (sources : List Source)
         (newer older : List RelayStep) (r i g w : ℕ) (one other : ℕ)
@@ -154,8 +156,8 @@ pub fn a_relayed_version_never_falls()
     a_session_has_at_most_4097_ticks();
 }
 
-/// A reader that is matched within the second configuration, and holds a row, holds the row of a store, which is the opening row or
-/// the row of a version of the first history.
+/// A reader that is matched within the second configuration, goes by numbers, and holds a row, holds the row of a store, which is the
+/// opening row or the row of a version of the first history, where its read group and the source's take nothing but what was sent.
 pub fn a_relayed_row_is_of_the_first_history()
     ensures { (p : Plan) (second : Config) (sources : List Source) (relay : List RelayStep)
         (r i g w : ℕ) (row : List DataValue) → IsRelay p second sources relay
@@ -218,8 +220,9 @@ pub fn a_kept_version_is_of_its_store()
 }
 
 /// What a gateway tells is of the first history: each data frame has the number of its source's stores at its round, and the row
-/// of that store, whose version is known; what a matched reader holds is the row of the store that its number names; and from one
-/// moment to a later one neither store nor version falls, where nothing was cut.
+/// of that store, whose version is known where the source's read group takes nothing but what was sent; what a matched reader that
+/// goes by numbers holds is the row of the store that its number names, where its read group takes nothing but what was sent; and
+/// from one moment to a later one neither store nor version falls, where both take nothing else and nothing was cut.
 pub fn a_gateway_tells_the_first_history()
     ensures { (p : Plan) (second : Config) (sources : List Source) (relay : List RelayStep)
         (rows : ℕ → ℕ → List DataValue) → IsRelay p second sources relay

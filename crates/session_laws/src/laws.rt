@@ -63,8 +63,9 @@ pub fn a_matched_reader_holds_what_was_sent()
     what_the_laws_below_say();
 }
 
-/// Whatever datagrams of a session are lost, repeated or reordered, each matched reader reads by *Records*, and holds exactly the
-/// published version that the unbroken run of its arrivals from a key frame names: the row of the version that its writer's log
+/// Whatever datagrams of a session are lost, repeated or reordered, each matched reader whose read group takes nothing but what was
+/// sent reads by *Records*, and holds, where it goes by numbers, exactly the published version that the unbroken run of its arrivals
+/// from a key frame names: the row of the version that its writer's log
 /// has at the held number, cut to the reader's fields, which is that of the writer's turn whose data frame has this place, cut
 /// so.
 pub fn matched_readers_hold_published_versions()

@@ -41,8 +41,9 @@ TellsOne config closed old new = (before : List ℕ) (other : Closed) → old �
 
 -- What was written is the report of a closed session of the accepted configuration and script, which was so performed that the link tells its steps. Each data
 -- message of a writer stands for one whole version of its data set's single history, that of the script's writes, and never for an older one than the message
--- before; and whatever datagrams were lost, repeated or reordered, each matched reader whose read group takes nothing but what was sent holds exactly the
--- version that its unbroken run of messages names, or has said why it waits. The report tells the threads of a legal order of writes that makes each history,
+-- before; and whatever datagrams were lost, repeated or reordered, each matched reader that goes by numbers, and whose read group takes nothing but what was sent,
+-- holds exactly the version that its unbroken run of messages names, or has said why it waits; one that ignores numbers holds the row of the last key frame that came
+-- since it was cut last. The report tells the threads of a legal order of writes that makes each history,
 -- and the closing tick sampled each history's last version. It tells this session and no other.
 -- fates: whether the script may give datagrams fates; Performed: how it was performed
 pub record WritesHeadline (fates : Bool) (Performed : Performance) (script_name : List ℕ) (config_name : Option (List ℕ)) (old new : Outside) (after : Wire) : Type 0 where
