@@ -62,8 +62,8 @@ IsOfVersion p meta source all rows store version row =
 abbrev pub set_of : Config → ℕ → ℕ → ℕ
 set_of config g w = (writer_at (group_at config g) w).dataset
 
--- What a reader that is matched within the second configuration holds: by its number a store of the source of its data set, and the row of this store. Where H or
--- S holds on the first link too, this is the opening row or the row of a version of the first history.
+-- What a reader that is matched within the second configuration holds: by its number a store of the source of its data set, and the row of this store. Where the source's read
+-- group takes nothing but what was sent, this is the opening row or the row of a version of the first history.
 pub record IsRelayed (p : Plan) (second : Config) (sources : List Source) (relay : List RelayStep) (r i g w : ℕ) (row : List DataValue) : Type 0 where
   pub store : ℕ
   pub holds : HoldsVersionAt (plan_again second) r i g w (seconds relay) store
