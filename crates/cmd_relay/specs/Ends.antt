@@ -58,10 +58,10 @@ pub record Writes (tells : List ℕ → ToldFile) (names : Names) (lab wire : Wi
   pub wire_opened : wire.opened_with ≡ Some (opening_again accepted.second)
   pub relay : IsRelayOf accepted.first accepted.second accepted.script lab.told wire.told text
 
--- What was written is the text of a play and of a gateway, of what was accepted: of one relay, which both links tell. Each data frame of the gateway has the number of its
+-- What was written is the text of a play and of a gateway, of what was accepted: of one relay, which each link that tells a journal tells. Each data frame of the gateway has the number of its
 -- source's stores at its round, and publishes the row of that store; each reader that is matched within the second configuration, and goes by numbers, holds the row of the
 -- printed store, or has said why it waits, where its read group takes nothing but what was sent. Where the source's takes nothing else too, the printed version is known and
--- that of the row, and neither falls from one pump to a later one, where nothing was cut.
+-- that of the row, and neither store nor version falls from one pump to a later one, where nothing was cut.
 pub record WritesRelay (names : Names) (old new : Outside) (lab wire : Wire) : Type 0 where
   pub accepted : Accepted
   pub accepts : Accepts old.file names accepted
@@ -113,7 +113,7 @@ Says status names old new lab wire = EndsBefore old.file names status
 
 -- ---- the links
 
--- what the command does to the links, for what was accepted; each tells to the end
+-- what the command does to the links, for what was accepted; each that tells, and has patience for a session's answers Nothing, tells to the end
 pub record UsesLinks (tells : List ℕ → ToldFile) (names : Names) (status : Status) (lab lab_after wire wire_after : Wire) : Type 0 where
   pub lab_opens : lab_after.opened_with ≢ lab.opened_with
       → (accepted : Accepted) × Accepts tells names accepted × (lab_after.opened_with ≡ Some (opening_of accepted.first accepted.script))

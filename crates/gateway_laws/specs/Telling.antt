@@ -1,4 +1,4 @@
--- What a gateway tells: the store of each data frame, the store and the version of what a reader holds, and that neither falls from one pump to a later one.
+-- What a gateway tells: the store of each data frame, the store and the version of what a reader holds, and that neither falls from one pump to a later one where nothing was cut.
 use Rattle.std.specs.Prelude.{◌≡◌, ℕ, ◌<◌, ◌≤◌, List, ◌∷◌, ◌++◌, length, Contains, Option, Some, true}
 use Rattle.std.specs.List.Sorted.{IsNonDecreasingBy}
 use Rattle.dataset_meta.specs.DataValues.{DataValue}
@@ -76,7 +76,7 @@ pub record IsNumbered (second : Config) (r i g w : ℕ) : Type 0 where
   pub matched : IsMatchedIn second r i g w
   pub numbering : (seat_at (setting_of second r).seats i).part.numbering ≡ Message
 
--- it holds the row of the store that its writer's log has at the number it holds, and the store's version is known
+-- it holds the row of the store that its writer's log has at the number it holds; where the source's read group takes nothing but what was sent, the store's version is known
 pub record HoldsStore (p : Plan) (second : Config) (sources : List Source) (relay : List RelayStep) (rows : ℕ → ℕ → List DataValue) (r i g w : ℕ) (row : List DataValue) : Type 0 where
   pub relayed : IsRelayed p second sources relay r i g w row
   pub known : IsHonestSource p (source_of second sources g w) (firsts relay) → IsKnown p second sources relay rows (set_of second g w) relayed.store
@@ -93,7 +93,7 @@ pub record AreUncut (p : Plan) (second : Config) (source : Source) (newer older 
   pub reader : IsUncutBetween (plan_again second) r i g w (seconds older) (seconds (newer ++ older))
   pub source_is : IsUncutSince p source (firsts (newer ++ older)) store
 
--- what it holds at the later one is no older: neither its store, nor the version that is told of this
+-- where neither it nor its source is cut, what it holds at the later one is no older: neither its store, nor the version that is told of this
 abbrev pub IsNoOlder : Plan → Config → Source → List RelayStep → List RelayStep → ℕ → ℕ → ℕ → ℕ → Type 0
 IsNoOlder p second source newer older r i g w =
     (store later_store version later_version : ℕ) → AreUncut p second source newer older r i g w store

@@ -50,7 +50,8 @@ use version_cell::histories_are_the_models;
 
 /// A gateway is a session of its configuration whose samples are the counts of its sources' stores, which never fall: each data
 /// frame of its writers publishes the row of the store that its log has, its logs never fall, and each reader that is matched
-/// within it reads by *Records*, and holds the row of the store that the log has at its number.
+/// within it, and whose read group takes nothing but what was sent, reads by *Records*, and a row that it holds is that of a store in
+/// the log: where it goes by numbers, of the one that the log has at its number.
 pub fn a_gateway_publishes_what_is_stored()
     ensures session { (p : Plan) (second : Config) (sources : List Source) (relay : List RelayStep)
         → IsRelay p second sources relay → AreSteps (plan_again second) (seconds relay)
@@ -89,8 +90,8 @@ pub fn a_gateway_publishes_what_is_stored()
     data_messages_stand_for_versions();
 }
 
-/// Each store of a source has a row that its reader held at the end of the pump that made it: that of the version that the first
-/// history's writer logged at the number of the message, which is what the store's origin tells, cut to the reader's fields.
+/// Where the source's read group takes nothing but what was sent, each store of a source has a row that its reader held at the end of
+/// the pump that made it: that of the version that the first history's writer logged at the number of the message, which is what the store's origin tells, cut to the reader's fields.
 pub fn what_is_stored_was_published()
     ensures { (p : Plan) (second : Config) (sources : List Source) (relay : List RelayStep)
         (set store : ℕ) (rows : ℕ → ℕ → List DataValue) → IsRelay p second sources relay
@@ -103,8 +104,8 @@ pub fn what_is_stored_was_published()
     matched_readers_hold_published_versions();
 }
 
-/// A reader that goes by numbers, and isn't cut between two moments of a session, doesn't hold an older version at the later one than
-/// at the earlier.
+/// A matched reader that goes by numbers, whose read group takes nothing but what was sent, and that isn't cut between two moments of a
+/// session, doesn't hold an older version at the later one than at the earlier.
 pub fn an_uncut_reader_never_holds_an_older_version()
     ensures { (p : Plan) (r i g w : ℕ) (later now : List Step) (one other : ℕ)
         → InSession p r i g w (later ++ now)
@@ -120,10 +121,11 @@ pub fn an_uncut_reader_never_holds_an_older_version()
     a_session_has_at_most_4097_ticks();
 }
 
-/// From one moment of a relay to a later one the store that the second reader holds, which goes by numbers, doesn't fall, where that
-/// reader isn't cut between them; nor does the version that the store came with, where the source isn't cut between the making of
-/// the two stores. So the version that is printed doesn't fall, where the source isn't cut after the making of the store that was
-/// held earlier.
+/// From one moment of a relay to a later one the store that a reader holds which is matched within the second configuration, goes by
+/// numbers, and whose read group takes nothing but what was sent, doesn't fall, where that reader isn't cut between them. Nor, where
+/// the source's read group takes nothing but what was sent, does the version that a store came with, where the source isn't cut
+/// between the making of the two stores. So, where both take nothing else, the version that is printed doesn't fall, where neither
+/// the reader is cut between the moments nor the source after the making of the store that was held earlier.
 pub fn a_relayed_version_never_falls()
     ensures stores { (p : Plan) (second : Config) (sources : List Source)
         (newer older : List RelayStep) (r i g w : ℕ) (one other : ℕ)

@@ -52,7 +52,7 @@ use writer_group::{
 
 /// A reader that is matched to a writer, where every datagram that its read group takes was made by a turn of some group before,
 /// whatever else comes: each item that comes to it is a frame that the writer answered, whatever datagrams are lost, repeated or reordered, whole or in chunks; what it keeps is what *Records* has of these
-/// items; and a row that it holds is that of the turn whose version the writer's log has at the held number.
+/// items; and a row that it holds is that of a turn of the writer whose version the writer's log has, by numbers at the held number.
 pub fn a_matched_reader_holds_what_was_sent()
     ensures comes { (most : ℕ) (p : Play) → most ≤ 65536 → IsPlay most p → ComesFromWriter p }
     ensures keeps { (p : Play) → IsPlay 16385 p

@@ -54,8 +54,8 @@ pub fn top<R: Threads + Wait + Sync, F: Folder, A: Link, B: Link, G: Gate, K: Si
 
     // Each data message stands for one whole version, and each matched reader that goes by numbers, and whose read group takes
     // nothing but what was sent, holds the one that its messages name, or has said why it waits: of the history that the script's
-    // writes make in the order of its lines, or, where threads make them, of a legal one. One that ignores numbers holds the row of
-    // the last key frame that came since it was cut last.
+    // writes make in the order of its lines, or, where threads make them, of a legal one. A matched one that ignores numbers holds,
+    // under the same premise, the row of the last key frame that came since it was cut last.
     ensures played { (script : List ℕ) (config : Option (List ℕ))
         → shape_of words.now ≡ Some (Play script config) → result ≡ 0
         → WritesPlay script config
@@ -72,7 +72,8 @@ pub fn top<R: Threads + Wait + Sync, F: Folder, A: Link, B: Link, G: Gate, K: Si
     // Each data frame of a gateway has the number of its source's stores, and the row of that store, whose version is known
     // where the source's read group takes nothing but what was sent. Each matched reader that goes by numbers, and whose read
     // group takes nothing but what was sent, holds the row of the store that is printed, or has said why it waits. Where the
-    // source's takes nothing else too, the printed version is known and that of the row, and neither falls where nothing was cut.
+    // source's takes nothing else too, the printed version is known and that of the row, and neither store nor version falls where
+    // nothing was cut.
     ensures relayed { (script first second : List ℕ)
         → shape_of words.now ≡ Some (Relay script first second) → result ≡ 0
         → WritesRelay (names_of script first second)
