@@ -31,7 +31,8 @@ pub fn refused_chunks_change_nothing()
         → is_laid (chunk_case kept chunk).1 ≡ false → (chunk_case kept chunk).0 ≡ kept }
 {}
 
-/// The chunks of a cut, in any order and with repeats, give the message once.
+/// The chunks of a cut, in any order and with repeats, give the message once: one of a byte or more, and of no more than the longest
+/// has, cut to rooms of a byte or more, for one who joins none of this number.
 pub fn chunks_of_a_cut_give_the_message_once()
     ensures { (room place : ℕ) (message : List ℕ) (kept : Joining) (given : List Chunk)
         → CutComesOnce room place message kept given }
@@ -44,7 +45,8 @@ pub fn each_chunk_of_a_cut_is_of_its_message()
         → (chunk.place ≡ place) × IsCutOf message chunk }
 {}
 
-/// Each chunk of a cut has a byte or more, at most as many as there is room for, and they are within its message.
+/// Each chunk of a cut has a byte or more, at most as many as there is room for, and they are within its message, where the message
+/// has a byte and there is room for one.
 pub fn each_chunk_of_a_cut_has_room_for_its_bytes()
     ensures { (room place : ℕ) (message : List ℕ) (chunk : Chunk) → 1 ≤ room → 1 ≤ length message
         → Contains (cuts room place message) chunk → IsWithinRoom room chunk }
@@ -56,7 +58,8 @@ pub fn chunks_that_cover_a_message_give_it_back()
         → CoverGivesBack message place chunks }
 {}
 
-/// A chunk that was written is read as itself, whatever bytes follow it. One with its place's number is read with that number.
+/// A chunk whose numbers are of their types, written, is read as itself, whatever bytes follow it; and likewise with its place's
+/// number.
 pub fn a_written_chunk_is_read_whatever_follows()
     ensures itself { (chunk : Chunk) (rest : List ℕ) → IsChunk chunk
         → chunk_at (chunk_bytes chunk ++ rest) ≡ Ok (chunk, rest) }
@@ -70,7 +73,8 @@ pub fn a_written_chunk_is_its_front_and_its_data()
         → length (chunk_bytes chunk) ≡ CHUNK_FRONT_BYTES + length chunk.bytes }
 {}
 
-/// Each chunk of a cut can be written, with its place's number.
+/// Each chunk of a cut can be written, with its place's number, where there is room for a byte, and the message has a byte or more
+/// and fewer than 2^31.
 pub fn each_chunk_of_a_cut_can_be_written()
     ensures { (room place : ℕ) (message : List ℕ) (chunk : Chunk)
         → CutCanBeWritten room place message chunk }

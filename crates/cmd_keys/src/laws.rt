@@ -21,7 +21,8 @@ pub fn each_key_that_is_tried_opens()
         → TellsExchange config asked text → TellsAnswer config asked text }
 {}
 
-/// A guard with the keys of a set finds the four zero bytes in each datagram of them that was protected under the set.
+/// A guard with the keys of a set, which accepted nothing, decrypts, and has first block 1, finds the four zero bytes in each datagram
+/// of them that was protected under the set.
 pub fn what_is_protected_is_found()
     ensures { (guard : Guard) (set : KeySet) (datagram : List ℕ) → CanOpen guard set
         → IsProtected set datagram → FindsZeros (setup_of guard) datagram true }

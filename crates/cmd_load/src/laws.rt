@@ -7,7 +7,7 @@ ghost use Rattle.script_runner.specs.Legal.{fields_in, history_by, writes_to};
 ghost use Rattle.cmd_load.specs.Newest.{newest_row};
 
 /// Generated work has `4n` ticks; and whatever order its threads write in, their history has `32n` versions, and the last of them
-/// has the row of each thread's last write.
+/// has the row of each thread's last write, for n from 1 to 1,024.
 pub fn generated_work_ends_with_one_row()
     ensures ticks { (n : ℕ) → ticks_in (generated n).lines ≡ 4 * n }
     ensures versions { (n : ℕ) (threads : List ℕ) → n ≤ 1024

@@ -110,7 +110,8 @@ pub fn slots_lie_apart_by_their_ends()
         ↔ ((slot.size ≡ 0) ⊎ (start ≤ slot.offset)) }
 {}
 
-/// Each frame of a datagram stands in its slot with zeros behind it, and in a slot that has no frame stand zeros.
+/// Each frame of a datagram stands in its slot with zeros behind it, and in a slot that has no frame stand zeros, where slots and
+/// header lie apart, and of each slot there is one frame at most, which fits.
 pub fn frames_stand_in_their_slots()
     ensures held { (header : List ℕ) (slots : List Slot) (frames : List (ℕ × List ℕ))
         → AreApart (length header) slots → AreFrames slots frames
@@ -123,7 +124,8 @@ pub fn frames_stand_in_their_slots()
         ≡ Some (replicate (slot_at slots index).size 0) }
 {}
 
-/// What stands in a slot of a payload behind a header is one frame of that slot with zeros behind it, or zeros.
+/// What stands in a slot of a payload behind a header, from which the slots lie apart as from one another, is one frame of that slot
+/// with zeros behind it, or zeros, where of each slot there is one frame at most, which fits.
 pub fn a_slot_holds_one_frame_or_zeros<X>()
     ensures { (front : List ℕ) (slots : List Slot) (index : X → ℕ) (spelling : X → List ℕ)
         (frames : List X) (place : ℕ) (bytes : List ℕ) → AreApart (length front) slots
@@ -133,7 +135,8 @@ pub fn a_slot_holds_one_frame_or_zeros<X>()
         → HoldsFrame index spelling frames place bytes }
 {}
 
-/// A datagram is its header and a payload, which hangs on the header's length alone and ends with the slot that ends last.
+/// A datagram whose slots and header lie apart is its header and a payload, which hangs on the header's length alone; and where of
+/// each slot there is one frame at most, which fits, the payload ends with the slot that ends last.
 pub fn payloads_stand_behind_their_header()
     ensures split { (header : List ℕ) (slots : List Slot) (frames : List (ℕ × List ℕ))
         → AreApart (length header) slots → AreFrames slots frames
@@ -143,8 +146,9 @@ pub fn payloads_stand_behind_their_header()
         → length (fixed_payload start slots frames) ≡ last_end slots - start }
 {}
 
-/// A datagram begins with its header, is zero outside it and the slots, and ends with the slot that ends last, or with its
-/// header where no slot ends behind that. So it has no more bytes than the limit, where its header has no more.
+/// Where of each slot there is one frame at most, which fits, a datagram begins with its header, if the slots lie apart from it, is
+/// zero outside it and the slots, and ends with the slot that ends last, or with its header where no slot ends behind that. So it
+/// has no more bytes than the limit that its slots keep, where its header has no more.
 pub fn datagrams_are_zero_outside_their_slots()
     ensures header { (header : List ℕ) (slots : List Slot) (frames : List (ℕ × List ℕ))
         → AreApart (length header) slots → AreFrames slots frames

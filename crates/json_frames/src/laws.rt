@@ -24,8 +24,9 @@ pub fn elements_are_read_one_way()
         → ReadAs metas sets elements other worse → (one ≡ other) × (bad ≡ worse) }
 {}
 
-/// What is read of a written message is its publisher and its parts, each the same, and no bad element; and it is refused for
-/// nothing: its document is the publisher and the elements of the parts.
+/// What is read of a written message, whose publisher has at most 256 bytes and whose parts are of the data sets that are named for
+/// their writers, is its publisher and its parts, each the same, and no bad element; and it is refused for nothing: its document is
+/// the publisher and the elements of the parts.
 pub fn what_is_written_is_read()
     ensures read { (metas : List MetaData) (sets : List (ℕ × ℕ)) (id : ℕ) (publisher : List ℕ)
         (parts : List Part) (bytes : List ℕ) (found : JsonRead) → length publisher ≤ 256

@@ -6,7 +6,7 @@ ghost use Rattle.dataset_meta.specs.DataValues.{DataValue, FitsField};
 ghost use Rattle.json_values.specs.Spelled.{field_json};
 ghost use Rattle.json_values.specs.Reading.{ReadsField};
 
-/// What is written of a field's value is read as that value.
+/// What is written of a value that fits its field is read as that value.
 pub fn written_values_are_read()
     ensures { (quality : Bool) (field : Field) (x : DataValue) → FitsField quality field x
         → ReadsField quality field (field_json quality x) x }

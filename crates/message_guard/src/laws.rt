@@ -51,7 +51,7 @@ pub fn a_passed_datagram_is_signed_and_acceptable()
     ensures acceptable { (mode : Mode) (keys : List TokenKeys) → PassesAcceptable mode keys }
 {}
 
-/// No pair of token and number is accepted twice, also where the guard is renewed in between.
+/// No pair of token and number is accepted twice, where each was acceptable when it came, also where the guard is renewed in between.
 #[tactic(auto, using(crate::proofs::Once::accepted_once, crate::proofs::Once::called_once))]
 pub fn no_pair_is_accepted_twice()
     ensures once { (keys : List TokenKeys) → AcceptsOnce keys }
@@ -84,12 +84,12 @@ pub fn a_renewed_sender_has_keys_of_its_ring()
     ensures turned { (s : SenderState) (now : ℕ) → StaysKnownAt s now }
 {}
 
-/// A sender whose moments don't fall has the keys of the set whose moment came last.
+/// A sender of accepted sets that has the keys of the set whose moment came last has them also once it turns to a later moment.
 pub fn a_sender_has_the_keys_of_the_moment()
     ensures { (long : Bool) (s : SenderState) → HasKeysOfMoments long s }
 {}
 
-/// A guard of a sender's ring knows the keys that the sender has at any moment.
+/// A guard of a sender's sets, whose tokens rise, knows the keys that the sender has of them at a moment.
 pub fn a_guard_of_the_ring_has_the_senders_keys()
     ensures { (s : SenderState) (now : ℕ) → IsKnownInRing s now }
 {}

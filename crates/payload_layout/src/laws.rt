@@ -51,7 +51,8 @@ pub fn payloads_are_as_long_as_counted()
         → payload_size part_size parts ≡ length (dynamic_payload (frames_in parts)) }
 {}
 
-/// The frames of a payload are split again, and its sizes are good; what follows more than one frame is ignored.
+/// The frames of a payload, each of fewer than 65,536 bytes where they are more than one, are split again, and its sizes are good;
+/// what follows more than one frame is ignored.
 pub fn payloads_are_split_again()
     ensures several { (frames : List (List ℕ)) (rest : List ℕ) → AreShort frames → 1 < length frames
         → frames_of (length frames) (dynamic_payload frames ++ rest) ≡ frames }
@@ -60,8 +61,8 @@ pub fn payloads_are_split_again()
         → ¬ HasBadSizes (length frames) (dynamic_payload frames ++ rest) }
 {}
 
-/// Frames come back with the ids of their writers, one for one and in order, whether they are none, one or more; what follows
-/// more than one frame is ignored.
+/// Frames of fewer than 65,536 bytes come back with the ids of their writers, one for one and in order, whether they are none, one
+/// or more; what follows more than one frame is ignored.
 pub fn frames_come_back_with_their_ids()
     ensures payload { (parts : List (ℕ × List ℕ)) → AreShort (frames_in parts)
         → parts_of (ids_in parts) (dynamic_payload (frames_in parts)) ≡ parts }
@@ -70,7 +71,7 @@ pub fn frames_come_back_with_their_ids()
         → parts_of (ids_in parts) (dynamic_payload (frames_in parts) ++ rest) ≡ parts }
 {}
 
-/// A payload with good sizes is that of the frames that it is split into, and a rest.
+/// A payload with good sizes for more than one frame is that of the frames that it is split into, and a rest.
 pub fn split_payloads_are_laid_out()
     ensures { (count : ℕ) (payload : List ℕ) → AreBytes payload → 1 < count
         → ¬ HasBadSizes count payload → BeginsWithPayload payload (frames_of count payload) }

@@ -123,8 +123,8 @@ pub fn one_thread_is_legal()
         → IsLegal (replicate (length patches) 0) (patches ∷ []) }
 {}
 
-/// A reader to which each frame of a writer comes, once and in order, finds no break, and after each turn it holds the row of
-/// the writer's last data frame.
+/// A reader to which each frame of a writer comes, once and in order, finds no break, and after each turn with rows of one data
+/// set it holds the row of the writer's last data frame.
 pub fn frames_in_order_are_held()
     ensures unbroken { (s : Settings) (deeds : List WriterDeed)
         → breaks (map (λ frame. Came (at 0 None frame)) (frames_of (cadence s deeds))) ≡ [] }

@@ -14,8 +14,9 @@ pub fn answers_have_places_of_their_span()
         → MovesOn s last before }
 {}
 
-/// What a reader holds, to which nothing comes but what one writer answered, cut to the reader's fields, is the row of the
-/// writer's turn whose data frame has the held place, cut so; with no numbering it is the row of some turn with a data frame.
+/// What a reader holds, to which since its last cut nothing came but what one writer answered to turns with rows of its data set,
+/// cut to the reader's fields, is the row of the writer's turn whose data frame has the held place, cut so; with no numbering it
+/// is the row of some turn with a data frame.
 pub fn a_held_row_was_sent()
     ensures numbered { (s : Settings) (deeds : List WriterDeed) → HeldRowsWereSent s deeds }
     ensures unnumbered { (s : Settings) (deeds : List WriterDeed) → UnnumberedRowsWereSent s deeds }

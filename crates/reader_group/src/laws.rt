@@ -73,8 +73,9 @@ pub fn a_bad_part_leaves_its_reader()
 {}
 
 /// Of a datagram that a sender spelled, and protected where the group is secured, a group that takes it has for its readers what
-/// was spelled: with a list of ids the messages that were laid out, one for one and in order; with a chunk's id the chunk; and in a
-/// fixed layout for each reader what was laid at its slot, with zeros behind it.
+/// was spelled: with a list of ids the messages that were laid out, each of fewer than 65,536 bytes, one for one and in order; with
+/// a chunk's id the chunk; and in a fixed layout, whose slots lie apart, for each reader what was laid at its slot, with zeros
+/// behind it.
 pub fn what_is_spelled_is_handed_on()
     ensures payload { EachHandsOn }
     ensures messages { (header : List ℕ) (parts : List (ℕ × List ℕ))
@@ -93,7 +94,8 @@ pub fn accepted_pairs_are_told_by_datagrams()
     ensures { (setting : Setting) (events : List Event) → AreTold setting events }
 {}
 
-/// Where places are near, each reader of the plain reading is what *Arrivals* and *Records* say of it.
+/// Where its messages, if it goes by numbers, and its chunks have places that are near, a reader of the plain reading is what
+/// *Arrivals* and *Records* say of it, whichever way its places are told.
 pub fn near_readers_have_their_records()
     ensures { (setting : Setting) (way : Way) (events : List Event) → Agrees setting way events }
 {
@@ -101,7 +103,7 @@ pub fn near_readers_have_their_records()
 }
 
 /// In a secured group the places of a reader that goes by numbers needn't be near, but for those of chunks: it is enough that they
-/// rise with the numbers that the sender gave its datagrams, under each token.
+/// rise with the numbers that the sender gave its datagrams, under each token, and that no items came but of what was sent so.
 pub fn secured_readers_have_their_records()
     ensures { (sent : ℕ → List (ℕ × ℕ)) → EachSecuredAgrees sent }
 {

@@ -51,8 +51,10 @@ use writer_group::{
 };
 
 /// A reader that is matched to a writer, where every datagram that its read group takes was made by a turn of some group before,
-/// whatever else comes: each item that comes to it is a frame that the writer answered, whatever datagrams are lost, repeated or reordered, whole or in chunks; what it keeps is what *Records* has of these
-/// items; and a row that it holds is that of a turn of the writer whose version the writer's log has, by numbers at the held number.
+/// whatever else comes, and the writer has sent at most 65,536 data frames, or for what is kept and held 16,385: each item that
+/// comes to it is a frame that the writer answered, whatever datagrams are lost, repeated or reordered, whole or in chunks; what
+/// it keeps is what *Records* has of these items; and a row that it holds is that of a turn of the writer whose version the
+/// writer's log has, by numbers at the held number.
 pub fn a_matched_reader_holds_what_was_sent()
     ensures comes { (most : ℕ) (p : Play) → most ≤ 65536 → IsPlay most p → ComesFromWriter p }
     ensures keeps { (p : Play) → IsPlay 16385 p
@@ -103,10 +105,10 @@ pub fn data_messages_stand_for_versions()
     each_turn_of_a_session_holds();
 }
 
-/// A reader to which the last datagram of a pump brings a key frame, alone and taken, holds its row; where it is matched to a
-/// writer, and the frame has the number of the last place in the writer's log, it holds that newest version: the version's row,
-/// cut to the reader's fields, at the number of that place. A closing turn is answered by a key frame, whose place and version
-/// are the last in the writer's log.
+/// A reader that is enabled, of an operational read group, to which the last datagram of a pump brings a key frame, alone and
+/// taken, holds its row; where it is matched to a writer, its read group took nothing but what was sent, and the frame has the
+/// number of the last place in the writer's log, it holds that newest version: the version's row, cut to the reader's fields, at
+/// the number of that place. A closing turn is answered by a key frame, whose place and version are the last in the writer's log.
 pub fn a_key_frame_that_comes_last_is_held()
     ensures held { (p : Plan) (r i : ℕ) (before : List Step) (entries : List Entry)
         (row : List DataValue) → BringsLast p r i before entries row
@@ -126,12 +128,13 @@ pub fn a_key_frame_that_comes_last_is_held()
     matched_readers_hold_published_versions();
 }
 
-/// Where the last turn of a writer was a closing one, and its frame came to a matched reader that goes by numbers, since its last
-/// cut, the reader holds the turn's version: the version's row, cut to its fields, at the number of the last place in the
-/// writer's log, where this version stands; and this is the version that the closing tick sampled of the writer's data set. It
-/// does so at whatever place of a pump the frame came, however often, and whatever came before or behind it (`came`). It came
-/// where, without security, each datagram of the turn with a part for the reader is one that the journal has as received in the
-/// pumps behind it, whole or in chunks, in whichever order (`received`). It came likewise to a secured read group that names the
+/// Of read groups that took nothing but what was sent: where the last turn of a writer was a closing one, and its frame came to a
+/// matched reader that goes by numbers, since its last cut, the reader holds the turn's version: the version's row, cut to its
+/// fields, at the number of the last place in the writer's log, where this version stands; and this is the version that the
+/// closing tick sampled of the writer's data set. It does so at whatever place of a pump the frame came, however often, and
+/// whatever came before or behind it (`came`). It came where, without security, each datagram of the turn with a part for the
+/// reader is one that the journal has as received in the pumps behind it, in which read group and reader were enabled and
+/// operational, whole or in chunks, in whichever order (`received`). It came likewise to a secured read group that names the
 /// writer's group, whatever the read group has accepted before (`secured`); to one that names none where this took each of its
 /// datagrams once, and none of a higher token (`taken`).
 ///

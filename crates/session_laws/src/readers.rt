@@ -17,7 +17,8 @@ use reader_group::{secured_readers_have_their_records, what_a_secured_group_take
 
 /// A reader that goes by numbers, of a secured read group, is what *Arrivals* and *Records* say of it, however many messages its
 /// writer sends, where each datagram that came with a signature under a key of the ring was made by one sender: with a number
-/// under each token that rises with the places of the writer's messages. What comes without such a signature is no matter.
+/// under each token that rises with the places of the writer's messages; and where the places of its chunks are near. What comes
+/// without such a signature is no matter.
 pub fn signed_readers_have_their_records()
     ensures { (m : Making) (setting : Setting) (way : Way) (events : List Event)
         → is_secured setting.setup.mode ≡ true → goes_by_numbers way ≡ true → SendsRise m.sent

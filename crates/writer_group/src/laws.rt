@@ -10,7 +10,8 @@ ghost use Rattle.writer_group.specs.Turning.{AnswersFrame, HasWrittenHeaders, Ke
 ghost use Rattle.writer_group.specs.Turns.{GroupDeed, is_refreshed, writer_past};
 
 /// No two datagrams of groups that share a sender are read with the same token and number, whatever the moments that it turns to and
-/// the rings that renew it, and whichever group makes the datagrams of a turn when.
+/// the rings that renew it, and whichever group makes the datagrams of a turn when, where each turn keeps its conditions: the sender
+/// has numbers for it, and its headers can be written.
 pub fn no_token_and_number_come_twice_in_groups()
     ensures { (s : SenderState) (uses : List SenderUse) → HaveNumbersOfTheirOwn s uses }
 {}
@@ -23,19 +24,22 @@ pub fn a_refreshed_writer_sends_a_key_frame()
     ensures whole { (part : GroupPart) (past : List GroupDeed) → SendsKeyFrames part past }
 {}
 
-/// No datagram of a turn is longer than its group's MaxNetworkMessageSize, whatever frames its writers have, and with the signature
-/// where the group is secured. A class id has 16 bytes by its type.
+/// No datagram of a turn of a good configuration is longer than its group's MaxNetworkMessageSize, whatever answers its writers have
+/// for metas that leave room, and with the signature where the group is secured, by a sender that isn't spent. A class id has 16
+/// bytes by its type.
 pub fn no_datagram_is_longer_than_max_size()
     ensures { (config : Config) (index : ℕ) → KeepsMaxSize config index }
 {}
 
-/// A turn makes a datagram for each of its payloads, and so one where a writer of the group has a frame.
+/// A turn makes a datagram for each of its payloads, and so one where a writer of the group, which has room for its data sets, has
+/// a frame.
 pub fn a_turn_with_a_frame_makes_a_datagram()
     ensures count { OfEachTurn MakesOneOfEach }
     ensures some { (config : Config) (part : GroupPart) → MakesSome config part }
 {}
 
-/// The headers of a turn's datagrams can be written, with a security header or without, whatever frames its writers have.
+/// The headers of a turn's datagrams can be written, in a group of a sound configuration whose numbers are of their types: without a
+/// security header, or with that of a sender that can give fronts, whatever frames its writers have.
 pub fn headers_of_a_turn_can_be_written()
     ensures { OfEachTurn HasWrittenHeaders }
 {}
