@@ -9,6 +9,7 @@ pub mod Further
 pub mod Giving
 pub mod LifeTicks
 pub mod LifeTokens
+pub mod LifeVersions
 pub mod Living
 pub mod Metas
 pub mod Numbers

@@ -1,9 +1,12 @@
--- Lives, in which rings renew a session's keys: what a key group protected, under which token it protects, and what a read group took.
+-- Lives, in which rings renew a session's keys: what a writer did, what a key group protected, under which token it protects, and what a read group took.
 use Rattle.std.specs.Prelude.{◌<◌, ◌≤◌, ◌≢◌, ◌^◌, ⊤, ℕ, List, [], ◌∷◌, map, All, AllPairs}
 use Rattle.group_keys.specs.declared.key_set.KeySet.{KeySet}
 use Rattle.message_guard.specs.Acceptance.{Accepted}
 use Rattle.ps_config.specs.Rings.{key_set}
 use Rattle.group_laws.specs.Witness.{three_keys}
+use Rattle.pubsub_model.specs.Cadence.{WriterDeed}
+use Rattle.writer_group.specs.Turns.{writer_past}
+use Rattle.session_model.specs.Deeds.{group_past}
 use Rattle.session_model.specs.Lives.{Lived, Stepped, Renewed, account_in}
 use Rattle.session_model.specs.Steps.{Plan}
 use Rattle.session_laws.specs.Fresh.{protected_in, token_after}
@@ -18,6 +21,10 @@ abbrev pub HasShortTokens : List Lived → Type 0
 HasShortTokens [] = ⊤
 HasShortTokens (Stepped step ∷ before) = HasShortTokens before
 HasShortTokens (Renewed keygroup sets ∷ before) = HaveShortTokens sets × HasShortTokens before
+
+-- what a writer did, the latest first
+abbrev pub deeds_in_life : Plan → ℕ → ℕ → List Lived → List WriterDeed
+deeds_in_life p g w life = writer_past w (group_past p.config g (account_in p life).deeds)
 
 -- the datagrams that a key group protected, the first first
 abbrev pub protected_in_life : Plan → ℕ → List Lived → List (List ℕ)

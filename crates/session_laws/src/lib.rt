@@ -25,7 +25,8 @@ pub use premises::{
 pub use printed::{a_closed_session_tells_the_headline, closed_sessions_tell_published_versions};
 pub use readers::{a_sessions_sender_makes_what_is_signed, signed_readers_have_their_records};
 pub use renewals::{
-    a_ring_has_short_tokens, a_signed_life_meets_the_premises, no_pair_is_taken_twice_in_a_life,
+    a_ring_has_short_tokens, a_signed_life_meets_the_premises,
+    data_messages_stand_for_versions_in_a_life, no_pair_is_taken_twice_in_a_life,
     no_token_and_number_come_twice_in_a_life, tokens_never_fall_in_a_life,
 };
 pub use turning::{each_turn_of_a_life_holds, each_turn_of_a_session_holds};

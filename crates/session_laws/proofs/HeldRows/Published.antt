@@ -30,7 +30,7 @@ use Rattle.session_laws.specs.Plays.{Play, IsPlay}
 use Rattle.session_laws.specs.Sessions.{AreVersions, HasSample, SamplesRise, pasts_at}
 use Rattle.session_laws.proofs.Versions.Distinct.{IsAt}
 use Rattle.session_laws.proofs.HeldRows.Holding.{comes-from-writer, holds-version}
-use Rattle.session_laws.proofs.Versions.Living.{IsVersionTurn, TurnsAre, past-of}
+use Rattle.session_laws.proofs.Versions.Living.{IsLife, IsVersionTurn, TurnsAre, past-of}
 use Rattle.session_laws.proofs.HeldRows.Near.{reads-by-records}
 use Rattle.session_laws.proofs.Versions.Rowing.{WordLaws}
 use Rattle.session_laws.proofs.Versions.Senders.{RingLaw}
@@ -151,18 +151,16 @@ turns-behind P (HadTurn turn ∷ later) deeds are = turns-behind P later deeds a
 last-is : (turn : WriterTurn) (o : Option PlacedFrame) (before : List Answered) → is_data (record { turn = turn; answer = o }) ≡ true → last_turn is_data (record { turn = turn; answer = o } ∷ before) ≡ turn
 last-is turn o before e = ap (λ (b : Bool). turn_of (if b then Some (record { turn = turn; answer = o }) else Rattle.std.specs.Prelude.find is_data before)) e
 
--- each data frame publishes the row of its version, cut to the fields that the data set had at its turn
-pub publishes : (limit : ℕ) (words : WordLaws) (ring : RingLaw) (p : Plan) (g w : ℕ) (steps : List Step) (rows : ℕ → ℕ → List DataValue) (later before : List WriterDeed) (turn : WriterTurn) → IsPlan p → AreStepsOf limit p steps → TurnsHold p steps → SamplesRise p steps
-    → AreVersions p steps rows → w < length (group_at p.config g).writer → writer_deeds p g w steps ≡ later ++ HadTurn turn ∷ before
+-- each data frame of what a writer lived through publishes the row of its version, cut to the fields that the data set had at its turn
+pub life-publishes : (p : Plan) (g w : ℕ) (steps : List Step) (now : MetaData) (past : List WriterDeed) (rows : ℕ → ℕ → List DataValue) (later before : List WriterDeed) (turn : WriterTurn)
+    → IsLife p (HasSample p steps) now (meta_at (group_at p.config g) p.config.dataset w) (writer_at (group_at p.config g) w).dataset past → AreVersions p steps rows → past ≡ later ++ HadTurn turn ∷ before
     → is_data (answered_turn (settings_at (group_at p.config g) w) before turn) ≡ true
     → PublishesVersion p steps (settings_at (group_at p.config g) w) (writer_at (group_at p.config g) w).dataset rows before turn
-publishes limit words ring p g w steps rows later before turn plan are hold rise versions within split e =
-    let group = group_at p.config g in
-    let s = settings_at group w in
-    let index = (writer_at group w).dataset in
-    let P = IsVersionTurn p (HasSample p steps) (meta_at group p.config.dataset w) index in
-    let life = (past-of limit words ring p g steps plan are hold rise).lives w within in
-    let own = rows-behind (meta_at group (metas_at p.config steps) w) later (HadTurn turn ∷ before) (subst (HasRowsOf (meta_at group (metas_at p.config steps) w)) split life.rows) in
+life-publishes p g w steps now past rows later before turn life versions split e =
+    let s = settings_at (group_at p.config g) w in
+    let index = (writer_at (group_at p.config g) w).dataset in
+    let P = IsVersionTurn p (HasSample p steps) (meta_at (group_at p.config g) p.config.dataset w) index in
+    let own = rows-behind now later (HadTurn turn ∷ before) (subst (HasRowsOf now) split life.rows) in
     let is = (turns-behind P later (HadTurn turn ∷ before) (subst (TurnsAre P) split life.turns)).0 in
     let last = last-is turn (answer s (is_fresh before) (cadence s before) turn) (cadence s before) e in
     let its_row : turn.row ≡ row_cut is.now (rows index turn.version) =
@@ -176,3 +174,12 @@ publishes limit words ring p g w steps rows later before turn plan are hold rise
       turn_row = its_row;
       row = cadence-publishes own.0 s (HadTurn turn ∷ before) own.1 ∙ ap (λ (t : WriterTurn). t.row) last ∙ its_row;
     }
+
+-- so in a session
+pub publishes : (limit : ℕ) (words : WordLaws) (ring : RingLaw) (p : Plan) (g w : ℕ) (steps : List Step) (rows : ℕ → ℕ → List DataValue) (later before : List WriterDeed) (turn : WriterTurn) → IsPlan p → AreStepsOf limit p steps → TurnsHold p steps → SamplesRise p steps
+    → AreVersions p steps rows → w < length (group_at p.config g).writer → writer_deeds p g w steps ≡ later ++ HadTurn turn ∷ before
+    → is_data (answered_turn (settings_at (group_at p.config g) w) before turn) ≡ true
+    → PublishesVersion p steps (settings_at (group_at p.config g) w) (writer_at (group_at p.config g) w).dataset rows before turn
+publishes limit words ring p g w steps rows later before turn plan are hold rise versions within split e =
+    life-publishes p g w steps (meta_at (group_at p.config g) (metas_at p.config steps) w) (writer_past w (pasts_at p steps g)) rows later before turn
+    ((past-of limit words ring p g steps plan are hold rise).lives w within) versions split e

@@ -10,7 +10,8 @@ use Rattle.session_model.specs.Keeping.{AreSteps, AreStepsOf}
 use Rattle.session_model.specs.Lives.{Stepped, steps_in}
 use Rattle.session_model.specs.Steps.{Step}
 use Rattle.session_laws.specs.Renewals.{HasShortTokens, HaveShortTokens, renewed_life}
-use Rattle.session_laws.specs.Witness.{three_plan, three_session}
+use Rattle.session_laws.specs.Sessions.{AreVersions, SamplesRise}
+use Rattle.session_laws.specs.Witness.{three_plan, three_rows, three_session}
 
 same-steps : (steps : List Step) → steps_in (map Stepped steps) ≡ steps
 same-steps [] = refl
@@ -18,6 +19,12 @@ same-steps (step ∷ before) = ap (λ (l : List Step). step ∷ l) (same-steps b
 
 pub life-steps : AreSteps three_plan three_session → AreStepsOf most_ticks three_plan (steps_in renewed_life)
 life-steps are = subst (λ (steps : List Step). AreStepsOf most_ticks three_plan steps) (sym (same-steps three_session)) are
+
+pub life-rise : SamplesRise three_plan three_session → SamplesRise three_plan (steps_in renewed_life)
+life-rise rise = subst (λ (steps : List Step). SamplesRise three_plan steps) (sym (same-steps three_session)) rise
+
+pub life-versions : AreVersions three_plan three_session three_rows → AreVersions three_plan (steps_in renewed_life) three_rows
+life-versions versions = subst (λ (steps : List Step). AreVersions three_plan steps three_rows) (sym (same-steps three_session)) versions
 
 no-rings : (steps : List Step) → HasShortTokens (map Stepped steps)
 no-rings [] = tt

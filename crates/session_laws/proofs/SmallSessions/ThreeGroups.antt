@@ -60,7 +60,7 @@ pub in-cut : ThreeLaws → InSession three_plan 2 0 2 0 three_session
 unfolding three_plan three_config
 in-cut laws = in-session beside (its-plan laws) 2 2 cut-matched
 
-versions-three : AreVersions three_plan three_session three_rows
+pub versions-three : AreVersions three_plan three_session three_rows
 unfolding three_plan three_config
 versions-three = versions-are beside
 

@@ -20,14 +20,14 @@ use Rattle.writer_group.specs.Turns.{GroupDeed, RefreshedWriter, HadGroupTurn, n
 use Rattle.group_laws.specs.Matching.{HasGrownSince}
 use Rattle.session_model.specs.Steps.{Plan, Step, Enable, Disable, Append, Tick, Pump, moment_of}
 use Rattle.session_model.specs.Sets.{metas_at, meta_in, AreRowsOf}
-use Rattle.session_model.specs.Deeds.{Deed, deeds, component_at, group_past, refreshed_where, is_writer_below, is_writer_of, writer_indexes, turn_input, turn_of}
+use Rattle.session_model.specs.Deeds.{Deed, deeds, component_at, group_past, refreshed_where, is_writer_below, is_writer_of, tick_deeds, writer_indexes, turn_input, turn_of}
 use Rattle.writer_group.specs.Parts.{group_at, no_group}
 use Rattle.session_model.specs.Keeping.{AreStepsOf, IsPlan}
 use Rattle.pubsub_model.specs.Answers.{turn_versions, NeverFall}
 use Rattle.session_laws.specs.Pasts.{AreTurns}
 use Rattle.session_laws.specs.Sessions.{HasSample, SamplesRise, pasts_at}
 use Rattle.session_model.specs.Turns.{TurnsHold}
-use Rattle.session_model.proofs.Deeds.{HoldsTick, refreshed-keeps}
+use Rattle.session_model.proofs.Deeds.{HoldsTick, TickKeeps, refreshed-keeps, tick-keeps}
 use Rattle.session_laws.proofs.Versions.Senders.{RingLaw, SendHolds, TurnHolds, send-holds}
 use Rattle.session_laws.proofs.Versions.Metas.{meta-of, grown-is, meta-other}
 use Rattle.session_laws.proofs.Versions.Rowing.{WordLaws, took-sampled, turn-is}
@@ -83,7 +83,7 @@ life-turn p S now conf index (Some t) past is h =
     let new = is t refl in
     record { rows = (new.0, h.rows); turns = (new.1, h.turns); never = (versions-below p S conf index t.version past new.2 h.turns, h.never) }
 
-life-more : (p : Plan) (S T : ℕ → MetaData → Sampled → Type 0) (now conf : MetaData) (index : ℕ) (past : List WriterDeed) → ((at : MetaData) (sample : Sampled) → S index at sample → T index at sample) → IsLife p S now conf index past → IsLife p T now conf index past
+pub life-more : (p : Plan) (S T : ℕ → MetaData → Sampled → Type 0) (now conf : MetaData) (index : ℕ) (past : List WriterDeed) → ((at : MetaData) (sample : Sampled) → S index at sample → T index at sample) → IsLife p S now conf index past → IsLife p T now conf index past
 life-more p S T now conf index past more h = record {
   rows = h.rows;
   turns = turns-more (IsVersionTurn p S conf index) (IsVersionTurn p T conf index) (λ turn is. record { sample = is.sample; now = is.now; sampled = more is.now is.sample is.sampled; version = is.version; fields = is.fields; had = is.had; row = is.row }) past h.turns;
@@ -92,9 +92,14 @@ life-more p S T now conf index past more h = record {
 
 -- ---- a group
 
-abbrev LifeOf : Plan → (ℕ → MetaData → Sampled → Type 0) → List MetaData → ℕ → ℕ → List GroupDeed → Type 0
+abbrev pub LifeOf : Plan → (ℕ → MetaData → Sampled → Type 0) → List MetaData → ℕ → ℕ → List GroupDeed → Type 0
 LifeOf p S metas g w past =
     IsLife p S (meta_at (group_at p.config g) metas w) (meta_at (group_at p.config g) p.config.dataset w) (writer_at (group_at p.config g) w).dataset (writer_past w past)
+
+-- refreshes among others
+pub refreshed-life : (p : Plan) (S : ℕ → MetaData → Sampled → Type 0) (metas : List MetaData) (g w : ℕ) (test : ℕ → Bool) (past : List GroupDeed) (writers : List ℕ) → LifeOf p S metas g w past → LifeOf p S metas g w (refreshed_where test past writers)
+refreshed-life p S metas g w test past writers h =
+    refreshed-keeps (LifeOf p S metas g w) (λ writer past h. life-if p S _ _ _ (writer == w) (writer_past w past) h) test past writers h
 
 pub record IsPastOf (p : Plan) (S : ℕ → MetaData → Sampled → Type 0) (metas : List MetaData) (g : ℕ) (past : List GroupDeed) : Type 0 where
   pub turns : AreTurns p.config (group_at p.config g) past
@@ -155,12 +160,16 @@ module _ (limit : ℕ) (laws : WordLaws) (p : Plan) (plan : IsPlan p) (before : 
         λ at other has. (let most = most-of index at other has in omega (arith, most, version)),
       )
 
+  own-life : (earlier : List Deed) (g w : ℕ) → g < length p.config.group → w < length (group_at p.config g).writer → LifeOf p S (metas_at p.config before) g w (group_past p.config g earlier)
+      → LifeOf p S (metas_at p.config before) g w (HadGroupTurn (turn_of p before now closing samples earlier g) ∷ group_past p.config g earlier)
+  own-life earlier g w there within h =
+      life-turn p S _ _ _ (took_by w (turn_of p before now closing samples earlier g)) (writer_past w (group_past p.config g earlier)) (λ t e. new-turn earlier g w t there within e) h
+
   own-turn : (earlier : List Deed) (g : ℕ) → g < length p.config.group → TurnHolds p.config (group_at p.config g) (group_past p.config g earlier) (turn_input p before now closing samples earlier g)
       → IsPastOf p S (metas_at p.config before) g (group_past p.config g earlier) → IsPastOf p S (metas_at p.config before) g (HadGroupTurn (turn_of p before now closing samples earlier g) ∷ group_past p.config g earlier)
   own-turn earlier g there holds h = record {
     turns = (turn-is limit laws p before now closing samples earlier g plan are there holds, h.turns);
-    lives = λ w within.
-        life-turn p S _ _ _ (took_by w (turn_of p before now closing samples earlier g)) (writer_past w (group_past p.config g earlier)) (λ t e. new-turn earlier g w t there within e) (h.lives w within);
+    lives = λ w within. own-life earlier g w there within (h.lives w within);
   }
 
   turn-if : (earlier : List Deed) (g other : ℕ) (b : Bool) → (other == g) ≡ b → other < length p.config.group → TurnHolds p.config (group_at p.config other) (group_past p.config other earlier) (turn_input p before now closing samples earlier other)
@@ -173,6 +182,27 @@ module _ (limit : ℕ) (laws : WordLaws) (p : Plan) (plan : IsPlan p) (before : 
       → IsPastOf p S (metas_at p.config before) n (HadGroupTurn (turn_of p before now closing samples earlier other) ∷ group_past p.config n earlier)) same
       (own-turn earlier other there holds) h
 
+  -- of one writer, whatever was done before the tick
+  life-if-turned : (earlier : List Deed) (g w other : ℕ) (b : Bool) → (other == g) ≡ b → other < length p.config.group → w < length (group_at p.config g).writer → LifeOf p S (metas_at p.config before) g w (group_past p.config g earlier)
+      → LifeOf p S (metas_at p.config before) g w (cons_if b (HadGroupTurn (turn_of p before now closing samples earlier other)) (group_past p.config g earlier))
+  life-if-turned earlier g w other false e there within h = h
+  life-if-turned earlier g w other true e there within h =
+      let same : other ≡ g = grind (arith, nat_tests) in
+      subst (λ (n : ℕ). w < length (group_at p.config n).writer → LifeOf p S (metas_at p.config before) n w (group_past p.config n earlier)
+      → LifeOf p S (metas_at p.config before) n w (HadGroupTurn (turn_of p before now closing samples earlier other) ∷ group_past p.config n earlier)) same
+      (λ within h. own-life earlier other w there within h) within h
+
+  tick-keeps-life : (g w : ℕ) → w < length (group_at p.config g).writer → TickKeeps p before now closing samples (λ earlier. LifeOf p S (metas_at p.config before) g w (group_past p.config g earlier))
+  tick-keeps-life g w within = record {
+    came = λ earlier h. h;
+    fresh = λ k earlier h. refreshed-life p S (metas_at p.config before) g w (is_writer_below (Group k) g) (group_past p.config g earlier) (writer_indexes (group_at p.config g)) h;
+    turn = λ other earlier there has h. life-if-turned earlier g w other (other == g) refl there within h;
+  }
+
+  pub tick-life : (g w : ℕ) (earlier : List Deed) → w < length (group_at p.config g).writer → LifeOf p S (metas_at p.config before) g w (group_past p.config g earlier)
+      → LifeOf p S (metas_at p.config before) g w (group_past p.config g (tick_deeds p before now closing samples earlier))
+  tick-life g w earlier within h = tick-keeps p before now closing samples earlier (λ earlier. LifeOf p S (metas_at p.config before) g w (group_past p.config g earlier)) (tick-keeps-life g w within) h
+
   tick-lives : (g : ℕ) → SendHolds p before now closing samples (λ earlier. IsPastOf p S (metas_at p.config before) g (group_past p.config g earlier))
   tick-lives g = record {
     came = λ earlier h. h;
@@ -181,7 +211,7 @@ module _ (limit : ℕ) (laws : WordLaws) (p : Plan) (plan : IsPlan p) (before : 
   }
 
   pub tick-past : RingLaw → (g : ℕ) → HoldsTick p before now closing samples → TurnsHold p before → IsPastOf p S (metas_at p.config before) g (group_past p.config g (deeds p before))
-      → IsPastOf p S (metas_at p.config before) g (group_past p.config g (Rattle.session_model.specs.Deeds.tick_deeds p before now closing samples (deeds p before)))
+      → IsPastOf p S (metas_at p.config before) g (group_past p.config g (tick_deeds p before now closing samples (deeds p before)))
   tick-past law g holds hold h = send-holds law p before now closing samples (λ earlier. IsPastOf p S (metas_at p.config before) g (group_past p.config g earlier)) plan (tick-lives g) holds hold h
 
 past-more : (p : Plan) (S T : ℕ → MetaData → Sampled → Type 0) (metas : List MetaData) (g : ℕ) (past : List GroupDeed) → ((index : ℕ) (at : MetaData) (sample : Sampled) → S index at sample → T index at sample) → IsPastOf p S metas g past → IsPastOf p T metas g past
@@ -226,24 +256,24 @@ writer-in n w below =
     let at : Rattle.std.proofs.Common.get_or (range_with_len 0 n) w w ≡ w = get_or-range_with_len 0 n w w below ∙ omega arith in
     (w, far, at)
 
-grow-life : (p : Plan) (S : ℕ → MetaData → Sampled → Type 0) (metas : List MetaData) (g w set : ℕ) (field : Field) (past : List GroupDeed) (b : Bool) → ((writer_at (group_at p.config g) w).dataset == set) ≡ b → set < length metas
-    → w < length (group_at p.config g).writer → IsPastOf p S metas g past
+pub grow-life : (p : Plan) (S : ℕ → MetaData → Sampled → Type 0) (metas : List MetaData) (g w set : ℕ) (field : Field) (past : List GroupDeed) (b : Bool) → ((writer_at (group_at p.config g) w).dataset == set) ≡ b → set < length metas
+    → w < length (group_at p.config g).writer → LifeOf p S metas g w past
     → LifeOf p S (Rattle.std.proofs.Common.set metas set (grown (meta_in metas set) field)) g w (refreshed_where (is_writer_of (group_at p.config g) set) past (writer_indexes (group_at p.config g)))
 grow-life p S metas g w set field past true e there within h =
     any-use p S _ _ w _ _
     (any-meta p S (meta_at (group_at p.config g) metas w) (meta_at (group_at p.config g) p.config.dataset w) (writer_at (group_at p.config g) w).dataset w (is_writer_of (group_at p.config g) set) past (writer_indexes (group_at p.config g)) e
-    (writer-in (length (group_at p.config g).writer) w within) (h.lives w within))
+    (writer-in (length (group_at p.config g).writer) w within) h)
 grow-life p S metas g w set field past false e there within h =
     let differ : (writer_at (group_at p.config g) w).dataset ≢ set = grind (arith, nat_tests) in
     let same = meta-other (group_at p.config g) w metas set (grown (meta_in metas set) field) differ in
     subst (λ (m : MetaData). IsLife p S m (meta_at (group_at p.config g) p.config.dataset w) (writer_at (group_at p.config g) w).dataset (writer_past w (refreshed_where (is_writer_of (group_at p.config g) set) past (writer_indexes (group_at p.config g)))))
-    (sym same) ((refreshed-past p S metas g (is_writer_of (group_at p.config g) set) past (writer_indexes (group_at p.config g)) h).lives w within)
+    (sym same) (refreshed-life p S metas g w (is_writer_of (group_at p.config g) set) past (writer_indexes (group_at p.config g)) h)
 
 grow-past : (p : Plan) (S : ℕ → MetaData → Sampled → Type 0) (metas : List MetaData) (g set : ℕ) (field : Field) (past : List GroupDeed) → set < length metas → IsPastOf p S metas g past
     → IsPastOf p S (Rattle.std.proofs.Common.set metas set (grown (meta_in metas set) field)) g (refreshed_where (is_writer_of (group_at p.config g) set) past (writer_indexes (group_at p.config g)))
 grow-past p S metas g set field past there h = record {
   turns = (refreshed-past p S metas g (is_writer_of (group_at p.config g) set) past (writer_indexes (group_at p.config g)) h).turns;
-  lives = λ w within. grow-life p S metas g w set field past ((writer_at (group_at p.config g) w).dataset == set) refl there within h;
+  lives = λ w within. grow-life p S metas g w set field past ((writer_at (group_at p.config g) w).dataset == set) refl there within (h.lives w within);
 }
 
 -- ---- over all steps
