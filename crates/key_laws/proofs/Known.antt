@@ -12,9 +12,11 @@ use Rattle.key_service.specs.declared.service.Keys.{Keys}
 use Rattle.key_service.specs.declared.wire_fault.WireFault.{WireFault}
 use Rattle.key_service.specs.Laws.{HasKeysOf, IsServedRing}
 use Rattle.key_service.specs.Answers.{answer}
-use Rattle.key_service.specs.Pulled.{as_read, pulled_sets}
+use Rattle.key_service.specs.Pulled.{as_read, from_moment, later, moment_of, pulled_sets, timed_from}
+use Rattle.key_service.specs.Reading.{reply_in}
+use Rattle.key_service.specs.Spelling.{reply_bytes}
 use Rattle.key_service.proofs.Served.{covered_moments, pulled_read_back}
-use Rattle.key_laws.specs.Pulled.{pulled_keys, made_pass, moment_after, AreInOrder, AreOfRing, HasSendersKeys, IsCoveredSender, IsPublisherAt, IsPullersGuard, IsReadersGuard, OpensMade, PassesMade, RestoresMade, StaysPublisher}
+use Rattle.key_laws.specs.Pulled.{pulled_keys, made_pass, moment_after, AreInOrder, AreOfRing, GivesPullersGuards, HasSendersKeys, IsCoveredSender, IsPublisherAt, IsPulledRing, IsPullersGuard, IsReadersGuard, OpensMade, PassesMade, RestoresMade, StaysPublisher}
 use Rattle.message_guard.specs.declared.keys.TokenKeys.{TokenKeys}
 use Rattle.message_guard.specs.declared.guard.Guard.{Guard}
 use Rattle.message_guard.specs.declared.mode.Mode.{Mode}
@@ -32,7 +34,7 @@ known_of pulled set has = keys_with-map pulled set.token ∙ ap (option_map keys
 
 pub known : (ring : Ring) (now count moment : ℕ) (s : SenderState) → IsCoveredSender ring now count moment s → HasSendersKeys ring now count s
 known ring now count moment s is =
-    let at = set_of (current (key_sets ring) moment) s.keys is.publisher.keys in
+    let at = set_of (current (key_sets ring) moment) s.keys is.keys in
     subst (λ (keys : TokenKeys). keys_with (pulled_keys ring now count) keys.token ≡ Some keys) (sym at.1.1)
     (known_of (pulled_sets (answer ring now 0 count)) at.0 (covered_moments ring now count is.served moment at.0 is.covered at.1.0))
 
@@ -58,7 +60,7 @@ restored ring now count moment s mode is datagram payload made =
     (payload_restored mode s (pulled_keys ring now count) (take payload datagram) (payload_in datagram payload) (known ring now count moment s is))
 
 -- a sender that turns keeps its sets
-sets_stay : (s : SenderState) (o : Option KeySet) → (turned_by s o).sets ≡ s.sets
+pub sets_stay : (s : SenderState) (o : Option KeySet) → (turned_by s o).sets ≡ s.sets
 sets_stay s None = refl
 sets_stay s (Some set) = by_token (nat_lt s.keys.token set.token)
   where
@@ -93,9 +95,9 @@ pullers_setup : (ring : Ring) (now count first_block : ℕ) (mode : Mode) (guard
     → setup_of guard ≡ record { keys = pulled_keys ring now count; mode = mode; first_block = first_block }
 pullers_setup ring now count first_block mode guard is =
     let setup = setup_of guard in
-    ap (λ (keys : List TokenKeys). record { keys = keys; mode = setup.mode; first_block = setup.first_block }) (is.over.keys ∙ ap (map keys_in) is.sets)
-    ∙ ap (λ (m : Mode). record { keys = pulled_keys ring now count; mode = m; first_block = setup.first_block }) is.over.mode_is
-    ∙ ap (λ (n : ℕ). record { keys = pulled_keys ring now count; mode = mode; first_block = n }) is.over.first_block_is
+    ap (λ (keys : List TokenKeys). record { keys = keys; mode = setup.mode; first_block = setup.first_block }) is.keys
+    ∙ ap (λ (m : Mode). record { keys = pulled_keys ring now count; mode = m; first_block = setup.first_block }) is.mode_is
+    ∙ ap (λ (n : ℕ). record { keys = pulled_keys ring now count; mode = mode; first_block = n }) is.first_block_is
 
 pub pullers_guard_opens : (ring : Ring) (now count moment : ℕ) (s : SenderState) (mode : Mode) (guard : Guard) → IsCoveredSender ring now count moment s → OpensMade ring now count mode s guard
 pullers_guard_opens ring now count moment s mode guard is datagram payload accepted said of_ring of_accepted made acceptable says =
@@ -108,15 +110,64 @@ pullers_guard_opens ring now count moment s mode guard is datagram payload accep
       ap (λ (setup : Setup). opened_by setup pass payload sent) same ∙ restored ring now count moment s mode is datagram payload made,
     )
 
+-- ---- which guards are a puller's
+
+-- the keys of sets are the same whatever a puller's moments
+same_keys : (next lifetime index : ℕ) (sets : List KeySet) → map keys_in (timed_from next lifetime index sets) ≡ map keys_in sets
+same_keys next lifetime index [] = refl
+same_keys next lifetime index (set ∷ sets) = ap (λ (keys : List TokenKeys). keys_in set ∷ keys) (same_keys next lifetime (index + 1) sets)
+
+pub keys_of_pulled : (keys : Keys) (pulled : Ring) → IsPulledRing keys pulled → map keys_in (key_sets pulled) ≡ map keys_in (pulled_sets keys)
+keys_of_pulled keys pulled is =
+    ap (map keys_in) is.sets ∙ same_keys (is.clock + keys.next) keys.lifetime 0 keys.keys.items ∙ sym (same_keys keys.next keys.lifetime 0 keys.keys.items)
+
+pub pulled_at_zero : (keys : Keys) (pulled : Ring) → key_sets pulled ≡ pulled_sets keys → IsPulledRing keys pulled
+pulled_at_zero keys pulled is =
+    let none : keys.next ≡ 0 + keys.next = omega arith in
+    record { clock = 0; sets = is ∙ ap (λ (next : ℕ). timed_from next keys.lifetime 0 keys.keys.items) none }
+
+pub pulled_at_clock : (keys : Keys) (clock : ℕ) (pulled : Ring) → key_sets pulled ≡ pulled_sets (later clock keys) → IsPulledRing keys pulled
+pulled_at_clock keys clock pulled is = record { clock = clock; sets = is }
+
+pub gives_guards : (ring : Ring) (now count : ℕ) (pulled : Ring) → IsPulledRing (answer ring now 0 count) pulled → GivesPullersGuards ring now count pulled
+gives_guards ring now count pulled is =
+    let same = keys_of_pulled (answer ring now 0 count) pulled is in
+    record {
+      over = λ mode first_block guard over. record {
+        keys = over.keys ∙ same;
+        mode_is = over.mode_is;
+        first_block_is = over.first_block_is;
+      };
+      renewed = λ old new has. record {
+        keys = ap (λ (setup : Setup). setup.keys) has ∙ same;
+        mode_is = ap (λ (setup : Setup). setup.mode) has;
+        first_block_is = ap (λ (setup : Setup). setup.first_block) has;
+      };
+    }
+
+-- sets that a puller timed are timed anew as they were
+timed-anew : (next lifetime other index : ℕ) (sets : List KeySet) → timed_from next lifetime index (timed_from other lifetime index sets) ≡ timed_from next lifetime index sets
+timed-anew next lifetime other index [] = refl
+timed-anew next lifetime other index (set ∷ sets) =
+    ap (λ (rest : List KeySet). from_moment set (moment_of next lifetime index) ∷ rest) (timed-anew next lifetime other (index + 1) sets)
+
+-- a ring that is made of what was read of the keys is one of the keys, by the same clock
+read_ring : (keys : Keys) (pulled : Ring) → IsPulledRing (as_read keys) pulled → IsPulledRing keys pulled
+read_ring keys pulled is = record {
+  clock = is.clock;
+  sets = is.sets ∙ timed-anew (is.clock + keys.next) keys.lifetime keys.next 0 keys.keys.items;
+}
+
+pub readers_ring : (ring : Ring) (now count : ℕ) (back : Keys) (pulled : Ring) → IsServedRing ring → reply_in (reply_bytes (answer ring now 0 count)) ≡ Ok back
+    → IsPulledRing back pulled → IsPulledRing (answer ring now 0 count) pulled
+readers_ring ring now count back pulled served read is =
+    let keys = answer ring now 0 count in
+    let of_answer = pulled_read_back ring now count served in
+    let both : Path (Result Keys WireFault) (Ok back) (Ok (as_read keys)) = sym read ∙ of_answer.read in
+    let same : back ≡ as_read keys = cc in
+    read_ring keys pulled (subst (λ (k : Keys). IsPulledRing k pulled) same is)
+
 pub readers_guard : (ring : Ring) (now count first_block : ℕ) (mode : Mode) (guard : Guard) → IsServedRing ring → IsReadersGuard ring now count mode first_block guard
     → IsPullersGuard ring now count mode first_block guard
 readers_guard ring now count first_block mode guard served is =
-    let keys = answer ring now 0 count in
-    let of_answer = pulled_read_back ring now count served in
-    let both : Path (Result Keys WireFault) (Ok is.back) (Ok (as_read keys)) = sym is.read ∙ of_answer.read in
-    let same : is.back ≡ as_read keys = cc in
-    record {
-      pulled = is.pulled;
-      sets = is.sets ∙ ap pulled_sets same ∙ of_answer.sets;
-      over = is.over;
-    }
+    (gives_guards ring now count is.pulled (readers_ring ring now count is.back is.pulled served is.read is.made)).over mode first_block guard is.over

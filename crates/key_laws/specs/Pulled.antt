@@ -1,11 +1,11 @@
 -- What a guard over a pulled ring has of what the publisher sends.
-use Rattle.std.specs.Prelude.{◌≡◌, ℕ, ◌≤◌, ⊤, List, [], ◌∷◌, ◌++◌, map, take, true, Some, Result, Ok, option_map}
+use Rattle.std.specs.Prelude.{◌≡◌, ℕ, ◌+◌, ◌-◌, ◌≤◌, ⊤, List, [], ◌∷◌, ◌++◌, map, take, true, Some, Result, Ok, option_map}
 use Rattle.group_keys.specs.declared.ring.Ring.{Ring}
 use Rattle.group_keys.specs.KeySets.{current}
 use Rattle.group_keys.specs.Ring.{key_sets}
 use Rattle.key_service.specs.Answers.{answer}
 use Rattle.key_service.specs.Laws.{IsCovered, IsServedRing}
-use Rattle.key_service.specs.Pulled.{pulled_sets}
+use Rattle.key_service.specs.Pulled.{later, pulled_sets}
 use Rattle.key_service.specs.Reading.{reply_in}
 use Rattle.key_service.specs.Spelling.{reply_bytes}
 use Rattle.key_service.specs.declared.service.Keys.{Keys}
@@ -15,28 +15,32 @@ use Rattle.message_guard.specs.declared.mode.Mode.{Mode}
 use Rattle.message_guard.specs.declared.open_fault.OpenFault.{OpenFault}
 use Rattle.message_guard.specs.declared.pass.Pass1.{Pass1}
 use Rattle.message_guard.specs.Acceptance.{Accepted, is_acceptable}
-use Rattle.message_guard.specs.Guards.{IsGuardOf, SaysVerdict, opened_by, setup_of}
+use Rattle.message_guard.specs.Guards.{IsGuardOf, SaysVerdict, opened_by, setup_of, setup_renewed}
 use Rattle.message_guard.specs.Modes.{is_secured}
 use Rattle.message_guard.specs.Opened.{sent_pass}
 use Rattle.message_guard.specs.Opening.{opened, verdict}
 use Rattle.message_guard.specs.Protection.{keys_in, keys_with, payload_in, signature_of}
 use Rattle.message_guard.specs.Senders.{IsSender, MayProtect, SenderState, SenderStep, TurnTo, Renew, Front, Protect, after, front_value, made_of}
 
--- The keys of a guard over the ring that a puller makes of the answer to start 0. `Guard::new` has these of the ring that `pulled` gives.
+-- the keys of the answer to start 0, as a guard has them that is made with a ring of it, or renewed by one
 abbrev pub pulled_keys : Ring → ℕ → ℕ → List TokenKeys
 pulled_keys ring now count = map keys_in (pulled_sets (answer ring now 0 count))
 
--- The publisher's sender at a moment: it is one of the ring, and has the keys of the set that the ring uses then. A new sender
--- is one of moment 0.
+-- the sender uses the ring's keys at the moment: those of the set that the ring uses then, whatever ring it has itself
+abbrev pub UsesKeysAt : Ring → ℕ → SenderState → Type 0
+UsesKeysAt ring moment s = option_map keys_in (current (key_sets ring) moment) ≡ Some s.keys
+
+-- The publisher's sender at a moment: it has the sets of the ring, and uses the ring's keys. A new sender is one of moment 0, and
+-- one that is resumed is one of the moment at which it is.
 pub record IsPublisherAt (ring : Ring) (moment : ℕ) (s : SenderState) : Type 0 where
   pub sets : s.sets ≡ key_sets ring
-  pub keys : option_map keys_in (current (key_sets ring) moment) ≡ Some s.keys
+  pub keys : UsesKeysAt ring moment s
 
--- the sender at a moment that is covered by the answer which the ring's service gave at `now`
+-- a sender that uses the ring's keys at a moment which is covered by the answer that the ring's service gave at `now`
 pub record IsCoveredSender (ring : Ring) (now count moment : ℕ) (s : SenderState) : Type 0 where
   pub served : IsServedRing ring
   pub covered : IsCovered (key_sets ring) now count moment
-  pub publisher : IsPublisherAt ring moment s
+  pub keys : UsesKeysAt ring moment s
 
 -- the last moment that a sender turned to, in the steps of those who share it
 abbrev pub moment_after : ℕ → List SenderStep → ℕ
@@ -99,28 +103,49 @@ RestoresMade ring now count mode s = (datagram : List ℕ) (payload : ℕ)
     ≡ take payload datagram ++ payload_in datagram payload
     ++ signature_of (made_of mode s datagram payload)
 
--- a guard of this mode and first block over the ring, as `Guard::new` gives it, whatever it accepted since
+-- a guard of this mode and first block that was made with the ring, or renewed by it last, whatever it accepted since
 pub record IsGuardOver (ring : Ring) (mode : Mode) (first_block : ℕ) (guard : Guard) : Type 0 where
   pub keys : (setup_of guard).keys ≡ map keys_in (key_sets ring)
   pub mode_is : (setup_of guard).mode ≡ mode
   pub first_block_is : (setup_of guard).first_block ≡ first_block
 
--- a puller's guard: one over the ring that `pulled` gives of the answer to start 0
-pub record IsPullersGuard (ring : Ring) (now count : ℕ) (mode : Mode) (first_block : ℕ) (guard : Guard) : Type 0 where
-  pub pulled : Ring
-  pub sets : key_sets pulled ≡ pulled_sets (answer ring now 0 count)
-  pub over : IsGuardOver pulled mode first_block guard
+-- A ring that a puller makes of the keys. `pulled` gives one, by a clock that stood at 0 when the keys were answered, and so do
+-- `pulled_at` and `pulled_for`, wherever they give any, by the clock that they are told.
+pub record IsPulledRing (keys : Keys) (pulled : Ring) : Type 0 where
+  pub clock : ℕ
+  pub sets : key_sets pulled ≡ pulled_sets (later clock keys)
 
--- one over the ring that `pulled` gives of what was read of the answer's bytes
+-- a puller's guard, of this mode and first block: it has the keys of the answer to start 0, and no others
+pub record IsPullersGuard (ring : Ring) (now count : ℕ) (mode : Mode) (first_block : ℕ) (guard : Guard) : Type 0 where
+  pub keys : (setup_of guard).keys ≡ pulled_keys ring now count
+  pub mode_is : (setup_of guard).mode ≡ mode
+  pub first_block_is : (setup_of guard).first_block ≡ first_block
+
+-- a guard over a ring that a puller makes of what was read of the answer's bytes
 pub record IsReadersGuard (ring : Ring) (now count : ℕ) (mode : Mode) (first_block : ℕ) (guard : Guard) : Type 0 where
   pub back : Keys
   pub read : reply_in (reply_bytes (answer ring now 0 count)) ≡ Ok back
   pub pulled : Ring
-  pub sets : key_sets pulled ≡ pulled_sets back
+  pub made : IsPulledRing back pulled
   pub over : IsGuardOver pulled mode first_block guard
 
--- A puller's guard of the sender's first block, whatever it accepted before, says Ok of what was made wherever the number is
--- acceptable, and what it decrypts is header and payload as they were, with the signature behind them.
+-- A guard over a ring that a puller makes of the answer is a puller's guard. So is, of the mode and first block that it had, one
+-- that is renewed by such a ring, whatever keys it had before.
+pub record GivesPullersGuards (ring : Ring) (now count : ℕ) (pulled : Ring) : Type 0 where
+  pub over : (mode : Mode) (first_block : ℕ) (guard : Guard) → IsGuardOver pulled mode first_block guard
+      → IsPullersGuard ring now count mode first_block guard
+  pub renewed : (old new : Guard) → setup_of new ≡ setup_renewed (setup_of old) (key_sets pulled)
+      → IsPullersGuard ring now count (setup_of old).mode (setup_of old).first_block new
+
+-- a sender that uses the keys of the pulled ring so long after the answer, by the puller's clock, uses those of the service's ring,
+-- where that moment is covered
+abbrev pub GivesRingsKeys : Ring → ℕ → ℕ → Ring → Type 0
+GivesRingsKeys ring now count pulled = (is : IsPulledRing (answer ring now 0 count) pulled) (moment : ℕ) (s : SenderState)
+    → IsCovered (key_sets ring) now count moment
+    → UsesKeysAt pulled (is.clock + (moment - now)) s → UsesKeysAt ring moment s
+
+-- A puller's guard of the mode and of the sender's first block, whatever it accepted before, says Ok of what was made wherever the
+-- number is acceptable, and what it decrypts is header and payload as they were, with the signature behind them.
 abbrev pub OpensMade : Ring → ℕ → ℕ → Mode → SenderState → Guard → Type 0
 OpensMade ring now count mode s guard = (datagram : List ℕ) (payload : ℕ) (accepted : Accepted) (said : Result Pass1 OpenFault)
     → IsPullersGuard ring now count mode s.first_block guard → IsGuardOf accepted guard
