@@ -296,7 +296,7 @@ module _ (laws : TurnLaws) (config : Config) (k g w : ℕ) (readers : ReadGroupP
         on named datagram accepted opened e (inr was) = old-parts named datagram accepted opened was e
 
   -- a turn of whichever group
-  took-held : (other : ℕ) (turn : GroupTurn) (before : List Deed) → IsRingTurn config other before turn → (other ≡ g → KnowsSender setup (sender_after config k before)) → RisenAt config k g w before → HeldAt before
+  took-held : (other : ℕ) (turn : GroupTurn) (before : List Deed) → ((group_at config other).keygroup ≡ Some k → IsRingTurn config other before turn) → (other ≡ g → KnowsSender setup (sender_after config k before)) → RisenAt config k g w before → HeldAt before
       → HeldAt (TookTurn other turn ∷ before)
   took-held other turn before own knows risen h = by (other == g) refl
     where
@@ -304,14 +304,17 @@ module _ (laws : TurnLaws) (config : Config) (k g w : ℕ) (readers : ReadGroupP
           → Held (cons_if b (HadGroupTurn turn) (group_past config g before))
           (λ token. given_on (b && ((sender_after config k before).keys.token == token)) (answer_to group (group_past config g before) w (took_by w turn)) (sender_after config k before).used (length turn.made) (sent_in config k g w token before))
       by false e = h
-      by true e = let same : other ≡ g = eqb-true other g e in own-held before turn (subst (λ (n : ℕ). IsRingTurn config n before turn) same own) (knows same) risen h
+      by true e =
+          let same : other ≡ g = eqb-true other g e in
+          let mine = own (subst (λ (n : ℕ). (group_at config n).keygroup ≡ Some k) (sym same) keyed) in
+          own-held before turn (subst (λ (n : ℕ). IsRingTurn config n before turn) same mine) (knows same) risen h
 
   -- all of these deeds
-  pub all-held : (list : List Deed) → AreRingTurns config list → KnowsSenders config setup k g list → HeldAt list
+  pub all-held : (list : List Deed) → AreRingTurns config k list → KnowsSenders config setup k g list → HeldAt list
   all-held [] are known = held-none
   all-held (RefreshedBelow component ∷ before) are known = held-below component before (all-held before are known)
   all-held (RefreshedSet set ∷ before) are known = held-set set before (all-held before are known)
   all-held (CameTo moment ∷ before) are known = all-held before are known
   all-held (RenewedKeys keygroup sets ∷ before) are known = all-held before are known
   all-held (TookTurn other turn ∷ before) are known =
-      took-held other turn before are.0 known.0 (own-risen config k g w keyed matched.reads.within before are.1) (all-held before are.1 known.1)
+      took-held other turn before are.1 known.0 (own-risen config k g w keyed matched.reads.within before are.2) (all-held before are.2 known.1)

@@ -5,7 +5,7 @@ use Rattle.std.proofs.lemmas.List.Elements.{All-append, All-cons, All-nil, Conta
 use Rattle.ua_base.specs.Journal.{Entry, Sent, Got, Empty}
 use Rattle.group_keys.specs.KeySets.{LengthsFit, encrypting_length, encrypting_lengths}
 use Rattle.group_keys.specs.declared.key_set.KeySet.{KeySet}
-use Rattle.group_laws.specs.Witness.{ones, signed_group, signed_readers, three_config, three_key, three_keys}
+use Rattle.group_laws.specs.Witness.{signed_group, signed_readers, three_config, three_key, three_keys}
 use Rattle.message_guard.specs.declared.keys.TokenKeys.{TokenKeys}
 use Rattle.message_guard.specs.Modes.{is_secured}
 use Rattle.message_guard.specs.Protection.{keys_in}
@@ -15,7 +15,7 @@ use Rattle.reader_group.specs.Arrivals.{is_numbered}
 use Rattle.reader_group.specs.Members.{seat_at}
 use Rattle.reader_group.specs.Plain.{Setting}
 use Rattle.reader_group.specs.Settings.{keygroup_at, setting_of}
-use Rattle.reader_group.specs.Signed.{IsSignedBy}
+use Rattle.reader_group.specs.Signed.{IsSignedBy, TakesSignedAlone}
 use Rattle.writer_group.specs.declared.sampled.Sampled.{Sampled}
 use Rattle.writer_group.specs.Parts.{group_at}
 use Rattle.session_model.specs.Counts.{most_ticks}
@@ -30,6 +30,7 @@ use Rattle.session_laws.specs.Witness.{three_plan, three_session}
 use Rattle.session_laws.specs.Renewals.{HasShortTokens, HaveShortTokens}
 use Rattle.turn_laws.specs.Lives.{AreSentIfSigned, IsSignedLife, TokensNameKeys, between_life, later_ring, later_set, sets_in_life, three_sent}
 use Rattle.turn_laws.specs.Makers.{IsSignedSession}
+use Rattle.turn_laws.proofs.LifeRecords.{honest-takes-in}
 
 -- ---- an entry of two lists is one of the first, or behind it
 
@@ -55,7 +56,7 @@ split-cases (x ∷ first) second (y ∷ before) entry after e =
 
 -- ---- sends and their receives
 
-abbrev done : List Send → List Bool
+abbrev pub done : List Send → List Bool
 done sends = map (λ send. true) sends
 
 no-got : (sends : List Send) (first behind : List Entry) (datagram : List ℕ) → send_entries sends (done sends) ≡ first ++ Got datagram ∷ behind → ⊥
@@ -73,7 +74,7 @@ gets-sent (send ∷ sends) (entry ∷ first) behind datagram e =
     let rest = gets-sent sends first behind datagram (let tail : map (λ (send : Send). Got send.datagram) sends ++ Empty ∷ [] ≡ first ++ Got datagram ∷ behind = cc in tail) in
     (suc rest.0, let lt = rest.1 in omega (arith, lt), rest.2)
 
-got-sent : (sends : List Send) (datagram : List ℕ) → Contains (map (λ (send : Send). Got send.datagram) sends ++ Empty ∷ []) (Got datagram) → Contains (send_entries sends (done sends)) (Sent datagram)
+pub got-sent : (sends : List Send) (datagram : List ℕ) → Contains (map (λ (send : Send). Got send.datagram) sends ++ Empty ∷ []) (Got datagram) → Contains (send_entries sends (done sends)) (Sent datagram)
 got-sent [] datagram (zero, below, same) = absurd (cc)
 got-sent [] datagram (suc k, below, same) = absurd (omega (arith, below))
 got-sent (send ∷ sends) datagram (zero, below, same) = let is : send.datagram ≡ datagram = cc in (0, omega arith, ap (λ (d : List ℕ). Sent d) is)
@@ -117,11 +118,11 @@ honest-delivered setting p ms closing samples before honest = λ earlier after d
 
 -- ---- the session of three groups
 
-three-keyed : (group_at three_plan.config 0).keygroup ≡ Some 0
+pub three-keyed : (group_at three_plan.config 0).keygroup ≡ Some 0
 unfolding three_plan three_config signed_group
 three-keyed = refl
 
-three-numbered : is_numbered (seat_at (setting_of three_plan.config 0).seats 0).part.numbering ≡ true
+pub three-numbered : is_numbered (seat_at (setting_of three_plan.config 0).seats 0).part.numbering ≡ true
 unfolding three_plan three_config signed_readers
 three-numbered = refl
 
@@ -134,7 +135,7 @@ three-signed is hold = record {
   under = record { there = is.there; within = is.matched.reads.within; keyed = three-keyed };
   matched = is.matched;
   numbered = three-numbered;
-  honest = honest-delivered (setting_of three_plan.config 0) three_plan 0 true (ones ∷ []) [] (honest-none (setting_of three_plan.config 0));
+  takes = is.honest;
 }
 
 -- ---- a life of it, which a ring renews
@@ -149,7 +150,7 @@ one-of a b one (suc zero, below, same) = inr same
 one-of a b one (suc (suc zero), below, same) = inl same
 one-of a b one (suc (suc (suc k)), below, same) = absurd (omega (arith, below))
 
-two-named : (a b : KeySet) → a.token ≢ b.token → TokensNameKeys (a ∷ b ∷ a ∷ [])
+pub two-named : (a b : KeySet) → a.token ≢ b.token → TokensNameKeys (a ∷ b ∷ a ∷ [])
 two-named a b apart = λ one other has_one has_other token. on one other (one-of a b one has_one) (one-of a b other has_other) token
   where
     on : (one other : KeySet) → (a ≡ one) ⊎ (b ≡ one) → (a ≡ other) ⊎ (b ≡ other) → one.token ≡ other.token → keys_in one ≡ keys_in other
@@ -158,7 +159,7 @@ two-named a b apart = λ one other has_one has_other token. on one other (one-of
     on one other (inr is) (inl also) token = absurd (apart (ap (λ (set : KeySet). set.token) also ∙ sym token ∙ sym (ap (λ (set : KeySet). set.token) is)))
     on one other (inr is) (inr also) token = ap keys_in (sym is ∙ also)
 
-three-named : TokensNameKeys (sets_in_life three_plan.config 0 between_life)
+pub three-named : TokensNameKeys (sets_in_life three_plan.config 0 between_life)
 unfolding three_plan three_config three_keys three_key
 three-named = two-named (key_set three_key) later_set (λ same. omega (arith, same))
 
@@ -167,7 +168,7 @@ fits-two a b is also zero below = is
 fits-two a b is also (suc zero) below = also
 fits-two a b is also (suc (suc index)) below = absurd (omega (arith, below))
 
-three-fit : LengthsFit (is_long (keygroup_at three_plan.config 0).policy) later_ring
+pub three-fit : LengthsFit (is_long (keygroup_at three_plan.config 0).policy) later_ring
 unfolding three_plan three_config three_keys three_key
 three-fit = fits-two (key_set three_key) later_set refl refl
 
@@ -175,8 +176,12 @@ pub three-short : HaveShortTokens (map key_set three_keys.key) → HasShortToken
 three-short short =
     (All-append (λ (set : KeySet). set.token < 2 ^ 32) (map key_set three_keys.key) (later_set ∷ []) short (All-cons (λ (set : KeySet). set.token < 2 ^ 32) later_set [] (lit< tt) (All-nil (λ (set : KeySet). set.token < 2 ^ 32))), tt)
 
-pub three-renewed : InSession three_plan 0 0 0 0 three_session → TurnsHoldIn three_plan between_life → IsSignedLife most_ticks three_plan 0 0 0 0 0 between_life
-three-renewed is hold = record {
+pub three-secured : is_secured (setting_of three_plan.config 0).setup.mode ≡ true
+unfolding three_plan three_config signed_readers
+three-secured = refl
+
+pub three-renewed : TakesSignedAlone → InSession three_plan 0 0 0 0 three_session → TurnsHoldIn three_plan between_life → IsSignedLife most_ticks three_plan 0 0 0 0 0 between_life
+three-renewed signed is hold = record {
   plan = is.plan;
   steps_are = is.steps_are;
   turns = hold;
@@ -184,7 +189,7 @@ three-renewed is hold = record {
   under = record { there = is.there; within = is.matched.reads.within; keyed = three-keyed };
   matched = is.matched;
   numbered = three-numbered;
-  honest = (between-honest ((account_in three_plan (Renewed 0 later_ring ∷ map Stepped three_sent)).readings 0).keys, (tt, tt));
+  takes = honest-takes-in signed three_plan 0 between_life three-secured (between-honest ((account_in three_plan (Renewed 0 later_ring ∷ map Stepped three_sent)).readings 0).keys, (tt, tt));
   named = three-named;
-  lengths = (three-fit, tt);
+  lengths = ((λ same. three-fit), tt);
 }

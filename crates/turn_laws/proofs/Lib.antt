@@ -8,7 +8,9 @@ pub mod Naming
 pub mod Uses
 pub mod Parts
 pub mod Holding
+pub mod OtherGroups
 pub mod Others
+pub mod Taken
 pub mod Signed
 pub mod LifeKeys
 pub mod OneKey
@@ -19,6 +21,8 @@ pub mod LifeTurns
 pub mod LifeMade
 pub mod LifeReading
 pub mod LifeRecords
+pub mod LifeAnew
 pub mod Honest
+pub mod RingTick
 pub mod NearPlaces
 pub mod CutLogs

@@ -27,7 +27,7 @@ use Rattle.session_model.specs.Deeds.{Deed, RefreshedBelow, RefreshedSet, CameTo
 use Rattle.session_model.specs.Lives.{Lived, Renewed, Stepped}
 use Rattle.session_laws.specs.Below.{RingLaw}
 use Rattle.session_laws.proofs.Versions.Senders.{advanced-is, senders-open, senders-use}
-use Rattle.turn_laws.specs.Lives.{FitPolicies, TokensNameKeys, sets_in_life}
+use Rattle.turn_laws.specs.Lives.{FitPolicy, TokensNameKeys, sets_in_life}
 
 -- ---- what is found under a token
 
@@ -95,14 +95,14 @@ more-fit : (config : Config) (k : ℕ) (b : Bool) (sets earlier : List KeySet) �
 more-fit config k true sets earlier new old = All-append (Fits config k) sets earlier (new refl) old
 more-fit config k false sets earlier new old = old
 
-pub sets-fit : (config : Config) (k : ℕ) (life : List Lived) → IsSound config → k < length config.keygroup → FitPolicies config life → All (Fits config k) (sets_in_life config k life)
+pub sets-fit : (config : Config) (k : ℕ) (life : List Lived) → IsSound config → k < length config.keygroup → FitPolicy config k life → All (Fits config k) (sets_in_life config k life)
 sets-fit config k [] sound there fit =
     let ring = keygroup_at config k in
     All-map (Fits config k) key_set ring.key (sound.keygroups k no_keygroup there).lengths_fit
 sets-fit config k (Stepped step ∷ before) sound there fit = sets-fit config k before sound there fit
 sets-fit config k (Renewed keygroup sets ∷ before) sound there fit =
     more-fit config k (keygroup == k) sets (sets_in_life config k before)
-    (λ is. subst (λ (n : ℕ). All (Fits config n) sets) (eqb-true keygroup k is) (all-fit (is_long (keygroup_at config keygroup).policy) sets fit.0)) (sets-fit config k before sound there fit.1)
+    (λ is. all-fit (is_long (keygroup_at config k).policy) sets (fit.0 (eqb-true keygroup k is))) (sets-fit config k before sound there fit.1)
 
 -- ---- a sender
 

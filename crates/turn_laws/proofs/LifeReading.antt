@@ -1,7 +1,7 @@
 -- What a read group takes with the keys of one ring it takes with those of all rings together, where tokens name keys: so its reading in a life is a plain reading
 -- of what it took and what befell it.
 use Rattle.std.proofs.Common.{◌≡◌, refl, sym, ap, ◌∙◌, subst, ℕ, Bool, true, false, List, [], ◌∷◌, map, Result, Ok, Err, All, Contains}
-use Rattle.std.specs.Prelude.{◌==◌, slice_index_or}
+use Rattle.std.specs.Prelude.{◌==◌, ⊤, slice_index_or}
 use Rattle.pubsub_model.specs.declared.reading.Why.TheVariants.{Timeout}
 use Rattle.group_keys.specs.declared.key_set.KeySet.{KeySet}
 use Rattle.message_guard.specs.declared.keys.TokenKeys.{TokenKeys}
@@ -14,19 +14,26 @@ use Rattle.reader_group.specs.Agreeing.{AreRestarts}
 use Rattle.reader_group.specs.Arrivals.{Mark, Way, accepted, arrivals_in, cut_on, marks, runs_out, taken_in}
 use Rattle.reader_group.specs.Opening.{Opened, verdict}
 use Rattle.reader_group.specs.Plain.{Setting, PlainGroup, Event, Got, Expired, Stopped, plain, step, taken_on, verdict_in, with_keys}
-use Rattle.reader_group.specs.Signed.{IsSignedBy, TakesSignedAlone}
 use Rattle.reader_group.proofs.Accepting.{plain-accepted}
 use Rattle.writer_group.specs.Turns.{GroupDeed}
 use Rattle.session_model.specs.Readings.{Reading, read_on}
 use Rattle.session_laws.specs.Pasts.{IsMade}
 use Rattle.session_laws.specs.Readers.{IsMadeFor, Making, SignedAreMade}
 use Rattle.session_laws.proofs.HeldRows.KnownTokens.{known-token}
-use Rattle.turn_laws.specs.Lives.{TokensNameKeys, marks_on}
+use Rattle.turn_laws.specs.Lives.{TakenAreMadeOn, TokensNameKeys, marks_on}
 use Rattle.turn_laws.specs.Makers.{SignedWereMade}
 use Rattle.turn_laws.proofs.Keyed.{other-keys}
 use Rattle.turn_laws.proofs.LifeKeys.{found-more}
 
-module _ (signed : TakesSignedAlone) (base : Setting) (secured : is_secured base.setup.mode ≡ true) (all : List KeySet) (named : TokensNameKeys all) (config : Config) (pasts : ℕ → List GroupDeed) (m : Making) (way : Way)
+-- each datagram of these events that the read group took, which stood there with the keys of the setting, was made by a group
+abbrev pub TakenWereMadeOn : Setting → Config → (ℕ → List GroupDeed) → PlainGroup → List Event → Type 0
+TakenWereMadeOn setting config pasts value [] = ⊤
+TakenWereMadeOn setting config pasts value (Got moment on datagram ∷ before) =
+    ((opened : Opened) → verdict_in setting (read_on setting value before) datagram ≡ Ok opened → IsMade config pasts datagram) × TakenWereMadeOn setting config pasts value before
+TakenWereMadeOn setting config pasts value (Expired moment ∷ before) = TakenWereMadeOn setting config pasts value before
+TakenWereMadeOn setting config pasts value (Stopped reader why ∷ before) = TakenWereMadeOn setting config pasts value before
+
+module _ (base : Setting) (secured : is_secured base.setup.mode ≡ true) (all : List KeySet) (named : TokensNameKeys all) (config : Config) (pasts : ℕ → List GroupDeed) (m : Making) (way : Way)
     (made_for : (datagram : List ℕ) → IsMade config pasts datagram → IsMadeFor m (with_keys base (map keys_in all)) way datagram) where
   -- with the keys of all rings together
   abbrev joined : Setting
@@ -55,8 +62,8 @@ module _ (signed : TakesSignedAlone) (base : Setting) (secured : is_secured base
         let same : keys_with (map keys_in sets) opened.pass.token ≡ keys_with (map keys_in all) opened.pass.token = known.known ∙ sym (found-more sets all opened.pass.token known.signer named among known.known) in
         other-keys base.group base.setup.mode base.setup.first_block (map keys_in sets) (map keys_in all) pairs datagram opened e same
 
-    got-read : (moment : ℕ) (on : List Bool) (datagram : List ℕ) (value : PlainGroup) (list : List Mark) (answer : Result Opened Refusal) → (IsSignedBy (map keys_in sets) datagram → IsMade config pasts datagram)
-        → verdict own.group own.setup value.accepted datagram ≡ answer → IsRead value list
+    got-read : (moment : ℕ) (on : List Bool) (datagram : List ℕ) (value : PlainGroup) (list : List Mark) (answer : Result Opened Refusal)
+        → ((opened : Opened) → verdict own.group own.setup value.accepted datagram ≡ Ok opened → IsMade config pasts datagram) → verdict own.group own.setup value.accepted datagram ≡ answer → IsRead value list
         → IsRead (taken_on own value moment on answer) (taken_in own way moment (slice_index_or on way.index false) value.accepted list answer)
     got-read moment on datagram value list (Err refusal) so e h = h
     got-read moment on datagram value list (Ok opened) so e h =
@@ -69,11 +76,11 @@ module _ (signed : TakesSignedAlone) (base : Setting) (secured : is_secured base
           list_is = ap (λ (pairs : Accepted). taken_in joined way moment enabled pairs (marks joined way h.events) (verdict joined.group joined.setup pairs datagram)) pairs_are
               ∙ ap (λ (l : List Mark). taken_in joined way moment enabled value.accepted l (verdict joined.group joined.setup value.accepted datagram)) h.list_is
               ∙ ap (taken_in joined way moment enabled value.accepted list) both;
-          made = ((λ by_all. made_for datagram (so (signed own.group own.setup value.accepted datagram opened e secured))), h.made);
+          made = ((λ by_all. made_for datagram (so opened e)), h.made);
           restarts = h.restarts;
         }
 
-    read-all : (events : List Event) (value : PlainGroup) (list : List Mark) → SignedWereMade own config pasts events → AreRestarts events → IsRead value list → IsRead (read_on own value events) (marks_on own way value list events)
+    read-all : (events : List Event) (value : PlainGroup) (list : List Mark) → TakenWereMadeOn own config pasts value events → AreRestarts events → IsRead value list → IsRead (read_on own value events) (marks_on own way value list events)
     read-all [] value list so restarts h = h
     read-all (Got moment on datagram ∷ before) value list so restarts h =
         let now = read_on own value before in
@@ -97,7 +104,15 @@ module _ (signed : TakesSignedAlone) (base : Setting) (secured : is_secured base
           restarts = (restarts.0, earlier.restarts);
         }
 
-    -- the sender made what came signed under these keys
+    -- the sender made what the group took with these keys
+    all-taken : (events : List Event) (value : PlainGroup) → TakenWereMadeOn own config pasts value events → TakenAreMadeOn m own way value events
+    all-taken [] value so = tt
+    all-taken (Got moment on datagram ∷ before) value so =
+        ((λ opened e pairs other is. made_for datagram (so.0 opened e) pairs other (joins pairs datagram other is)), all-taken before value so.1)
+    all-taken (Expired moment ∷ before) value so = all-taken before value so
+    all-taken (Stopped reader why ∷ before) value so = all-taken before value so
+
+    -- and what came signed under them
     all-made : (events : List Event) → SignedWereMade own config pasts events → SignedAreMade m own way events
     all-made [] so = tt
     all-made (Got moment on datagram ∷ before) so = ((λ by_own pairs opened e. made_for datagram (so.0 by_own) pairs opened (joins pairs datagram opened e)), all-made before so.1)
@@ -112,11 +127,17 @@ module _ (signed : TakesSignedAlone) (base : Setting) (secured : is_secured base
     pub keys : reading.keys ≡ map keys_in sets
     pub read : IsRead reading.value list
 
-  pub goes-read : (reading : Reading) (list : List Mark) (events : List Event) → SignedWereMade (with_keys base reading.keys) config pasts events → AreRestarts events → IsReadWith reading list
+  pub goes-read : (reading : Reading) (list : List Mark) (events : List Event) → TakenWereMadeOn (with_keys base reading.keys) config pasts reading.value events → AreRestarts events → IsReadWith reading list
       → IsRead (read_on (with_keys base reading.keys) reading.value events) (marks_on (with_keys base reading.keys) way reading.value list events)
   goes-read reading list events so restarts h =
-      subst (λ (keys : List TokenKeys). SignedWereMade (with_keys base keys) config pasts events → IsRead (read_on (with_keys base keys) reading.value events) (marks_on (with_keys base keys) way reading.value list events)) (sym h.keys)
+      subst (λ (keys : List TokenKeys). TakenWereMadeOn (with_keys base keys) config pasts reading.value events → IsRead (read_on (with_keys base keys) reading.value events) (marks_on (with_keys base keys) way reading.value list events)) (sym h.keys)
       (λ own_so. read-all h.sets h.among events reading.value list own_so restarts h.read) so
+
+  pub goes-taken : (reading : Reading) (list : List Mark) (events : List Event) → TakenWereMadeOn (with_keys base reading.keys) config pasts reading.value events → IsReadWith reading list
+      → TakenAreMadeOn m (with_keys base reading.keys) way reading.value events
+  goes-taken reading list events so h =
+      subst (λ (keys : List TokenKeys). TakenWereMadeOn (with_keys base keys) config pasts reading.value events → TakenAreMadeOn m (with_keys base keys) way reading.value events) (sym h.keys)
+      (λ own_so. all-taken h.sets h.among events reading.value own_so) so
 
   pub goes-made : (reading : Reading) (list : List Mark) (events : List Event) → SignedWereMade (with_keys base reading.keys) config pasts events → IsReadWith reading list → SignedAreMade m (with_keys base reading.keys) way events
   goes-made reading list events so h =

@@ -19,10 +19,10 @@ use Rattle.session_model.specs.Steps.{Plan, Step, Enable, Disable, Append, Tick,
 use Rattle.session_model.proofs.Deeds.{TickHolds}
 use Rattle.session_laws.specs.Below.{RingLaw, WordLaws}
 use Rattle.session_laws.proofs.Versions.LifeTicks.{life-tick}
-use Rattle.turn_laws.specs.Lives.{FitPolicies, TokensNameKeys, sets_in_life}
+use Rattle.turn_laws.specs.Lives.{FitPolicy, TokensNameKeys, sets_in_life}
 use Rattle.turn_laws.proofs.LifeKeys.{Fits, HasKeysOf, HaveKeysOf, earlier-sets, have-below, have-came, have-open, have-renewed, have-set, have-turn, have-use, named-found, new-sets, sets-fit}
 use Rattle.turn_laws.proofs.Rings.{AreRingTurns, KnowsSender, KnowsSenders}
-use Rattle.turn_laws.proofs.Turns.{life-turn}
+use Rattle.turn_laws.proofs.Turns.{keyed-turn, written-turn}
 
 -- the guard of a read group, with the keys of these sets
 abbrev pub setup_of : Config → ReadGroupPart → List KeySet → Setup
@@ -35,21 +35,21 @@ knows-from config readers k sets s named reads from = record {
 }
 
 -- a group of the key group k, and a read group with its keys, in a whole life
-module _ (ring : RingLaw) (words : WordLaws) (most : ℕ) (p : Plan) (plan : IsPlan p) (whole : List Lived) (fit : FitPolicies p.config whole) (k g : ℕ) (there : k < length p.config.keygroup) (readers : ReadGroupPart) (reads : readers.keygroup ≡ Some k)
+module _ (ring : RingLaw) (words : WordLaws) (most : ℕ) (p : Plan) (plan : IsPlan p) (whole : List Lived) (k g : ℕ) (fit : FitPolicy p.config k whole) (there : k < length p.config.keygroup) (readers : ReadGroupPart) (reads : readers.keygroup ≡ Some k)
     (named : TokensNameKeys (sets_in_life p.config k whole)) where
   -- one of the key group's
   abbrev IsOne : ℕ → KeySet → Type 0
   IsOne n set = Contains (sets_in_life p.config n whole) set
 
-  one-fits : (n : ℕ) → n < length p.config.keygroup → (set : KeySet) → IsOne n set → Fits p.config n set
-  one-fits n here set has = All-contains (Fits p.config n) (sets_in_life p.config n whole) set (sets-fit p.config n whole plan.good.sound here fit) has
+  one-fits : (set : KeySet) → IsOne k set → Fits p.config k set
+  one-fits set has = All-contains (Fits p.config k) (sets_in_life p.config k whole) set (sets-fit p.config k whole plan.good.sound there fit) has
 
   abbrev setup : Setup
   setup = setup_of p.config readers (sets_in_life p.config k whole)
 
   record Kept (deeds : List Deed) : Type 0 where
     keys : HaveKeysOf IsOne p.config deeds
-    turns : AreRingTurns p.config deeds
+    turns : AreRingTurns p.config k deeds
     known : KnowsSenders p.config setup k g deeds
 
   kept-tick : (before : List Step) (now : ℕ) (closing : Bool) (samples : List Sampled) → AreStepsOf most p before → TickHolds p before now closing samples Kept
@@ -58,7 +58,11 @@ module _ (ring : RingLaw) (words : WordLaws) (most : ℕ) (p : Plan) (plan : IsP
     fresh = λ other earlier h. record { keys = have-below IsOne p.config (Group other) earlier h.keys; turns = h.turns; known = h.known };
     turn = λ other earlier here has holds h. record {
       keys = have-turn IsOne p.config other (turn_of p before now closing samples earlier other) earlier h.keys;
-      turns = (life-turn words most p before now closing samples earlier other plan are here IsOne one-fits holds has h.keys, h.turns);
+      turns = (
+        written-turn words most p before now closing samples earlier other plan are here holds,
+        (λ keyed. keyed-turn words most p before now closing samples earlier other plan are here (IsOne k) k one-fits holds has keyed (have-use IsOne p.config earlier k h.keys there)),
+        h.turns,
+      );
       known = (
         λ same. knows-from p.config readers k (sets_in_life p.config k whole) (sender_after p.config k earlier) named reads (have-use IsOne p.config earlier k h.keys there),
         h.known,
@@ -88,7 +92,7 @@ module _ (ring : RingLaw) (words : WordLaws) (most : ℕ) (p : Plan) (plan : IsP
   abbrev ones : (n : ℕ) → All (IsOne n) (sets_in_life p.config n whole)
   ones n = All-contains_itself (sets_in_life p.config n whole)
 
-  pub life-turns : AreStepsOf most p (steps_in whole) → TurnsHoldIn p whole → AreRingTurns p.config (account_in p whole).deeds
+  pub life-turns : AreStepsOf most p (steps_in whole) → TurnsHoldIn p whole → AreRingTurns p.config k (account_in p whole).deeds
   life-turns are hold = (life-kept whole are hold ones).turns
 
   pub life-knows : AreStepsOf most p (steps_in whole) → TurnsHoldIn p whole → KnowsSenders p.config setup k g (account_in p whole).deeds

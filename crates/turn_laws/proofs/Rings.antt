@@ -1,4 +1,4 @@
--- Turns by the definitions, each of the configuration with some rings of its key groups: so are those of a life, in which rings renew them.
+-- Turns by the definitions: of the groups of a key group, each of the configuration with some rings, as those of a life are, in which rings renew them.
 use Rattle.std.proofs.Common.{◌≡◌, refl, sym, ap, ◌∙◌, subst, ℕ, true, List, [], ◌∷◌, length, Option, Some, None, IfSome}
 use Rattle.std.specs.Prelude.{⊤, option_map, slice_get}
 use Rattle.message_guard.specs.Guards.{Setup}
@@ -17,7 +17,8 @@ use Rattle.ps_config.specs.Sound.{IsKeyed, IsSound}
 use Rattle.reader_group.specs.Settings.{keygroup_at, setup_by}
 use Rattle.writer_group.specs.Parts.{group_at}
 use Rattle.writer_group.specs.Payloads.{payloads_of}
-use Rattle.writer_group.specs.Turns.{GroupDeed, GroupTurn, HadGroupTurn, RefreshedWriter, frames_in}
+use Rattle.writer_group.specs.Sealing.{AreWritten}
+use Rattle.writer_group.specs.Turns.{GroupDeed, GroupTurn, HadGroupTurn, RefreshedWriter, TurnInput, envelope_of, frames_in, turned}
 use Rattle.group_laws.specs.Matching.{IsMatchedTo, IsSenderOf, MaySend}
 use Rattle.session_model.specs.Deeds.{Deed, RefreshedBelow, RefreshedSet, CameTo, TookTurn, RenewedKeys, group_past, sender_after, sender_of}
 use Rattle.session_laws.specs.Pasts.{IsTurn}
@@ -34,20 +35,27 @@ pub record IsRingTurn (config : Config) (g : ℕ) (before : List Deed) (turn : G
   pub is : IsTurn (with_rings config rings) (group_at config g) (group_past config g before) turn
   pub sender : is.input.sender ≡ sender_of config g before
 
-abbrev pub AreRingTurns : Config → List Deed → Type 0
-AreRingTurns config [] = ⊤
-AreRingTurns config (RefreshedBelow component ∷ before) = AreRingTurns config before
-AreRingTurns config (RefreshedSet set ∷ before) = AreRingTurns config before
-AreRingTurns config (CameTo moment ∷ before) = AreRingTurns config before
-AreRingTurns config (TookTurn g turn ∷ before) = IsRingTurn config g before turn × AreRingTurns config before
-AreRingTurns config (RenewedKeys keygroup sets ∷ before) = AreRingTurns config before
+-- the turn is what a group makes of some input, and its headers can be written; of its sender nothing is asked
+pub record IsWrittenTurn (config : Config) (group : GroupPart) (past : List GroupDeed) (turn : GroupTurn) : Type 0 where
+  pub input : TurnInput
+  pub is : turn ≡ turned config group past input
+  pub written : AreWritten (envelope_of config group past) input.sender 0 (payloads_of config group (frames_in group past input))
+
+-- so is each turn, and those of the groups of the key group k are by the definitions
+abbrev pub AreRingTurns : Config → ℕ → List Deed → Type 0
+AreRingTurns config k [] = ⊤
+AreRingTurns config k (RefreshedBelow component ∷ before) = AreRingTurns config k before
+AreRingTurns config k (RefreshedSet set ∷ before) = AreRingTurns config k before
+AreRingTurns config k (CameTo moment ∷ before) = AreRingTurns config k before
+AreRingTurns config k (TookTurn g turn ∷ before) =
+    IsWrittenTurn config (group_at config g) (group_past config g before) turn × ((group_at config g).keygroup ≡ Some k → IsRingTurn config g before turn) × AreRingTurns config k before
+AreRingTurns config k (RenewedKeys keygroup sets ∷ before) = AreRingTurns config k before
 
 -- so is each turn of a group
-abbrev pub AreRingPast : Config → GroupPart → List GroupDeed → Type 0
-AreRingPast config group [] = ⊤
-AreRingPast config group (RefreshedWriter writer ∷ before) = AreRingPast config group before
-AreRingPast config group (HadGroupTurn turn ∷ before) =
-    ((rings : List KeyGroupPart) × IsTurn (with_rings config rings) group before turn) × AreRingPast config group before
+abbrev pub AreWrittenPast : Config → GroupPart → List GroupDeed → Type 0
+AreWrittenPast config group [] = ⊤
+AreWrittenPast config group (RefreshedWriter writer ∷ before) = AreWrittenPast config group before
+AreWrittenPast config group (HadGroupTurn turn ∷ before) = IsWrittenTurn config group before turn × AreWrittenPast config group before
 
 -- a guard knows the sender: under the sender's token it has its keys, and it has its first block counter
 pub record KnowsSender (setup : Setup) (s : SenderState) : Type 0 where
@@ -76,13 +84,17 @@ sender-of config g k before o keyed is = is ∙ ap (option_map (λ (n : ℕ). se
 
 -- ---- turns with the rings of the configuration
 
-pub ring-turns : (config : Config) (list : List Deed) → AreOwnTurns config list → AreRingTurns config list
-ring-turns config [] are = tt
-ring-turns config (RefreshedBelow component ∷ before) are = ring-turns config before are
-ring-turns config (RefreshedSet set ∷ before) are = ring-turns config before are
-ring-turns config (CameTo moment ∷ before) are = ring-turns config before are
-ring-turns config (TookTurn g turn ∷ before) are = (record { rings = config.keygroup; is = are.0.is; sender = are.0.sender }, ring-turns config before are.1)
-ring-turns config (RenewedKeys keygroup sets ∷ before) are = ring-turns config before are
+pub ring-turns : (config : Config) (k : ℕ) (list : List Deed) → AreOwnTurns config list → AreRingTurns config k list
+ring-turns config k [] are = tt
+ring-turns config k (RefreshedBelow component ∷ before) are = ring-turns config k before are
+ring-turns config k (RefreshedSet set ∷ before) are = ring-turns config k before are
+ring-turns config k (CameTo moment ∷ before) are = ring-turns config k before are
+ring-turns config k (TookTurn g turn ∷ before) are = (
+  record { input = are.0.is.input; is = are.0.is.is; written = are.0.is.may.written },
+  (λ keyed. record { rings = config.keygroup; is = are.0.is; sender = are.0.sender }),
+  ring-turns config k before are.1,
+)
+ring-turns config k (RenewedKeys keygroup sets ∷ before) are = ring-turns config k before are
 
 own-known : (config : Config) (readers : ReadGroupPart) (g k : ℕ) (before : List Deed) (turn : GroupTurn) → (group_at config g).keygroup ≡ Some k → readers.keygroup ≡ Some k → IsOwnTurn config g before turn
     → KnowsSender (setup_by config readers readers.keygroup) (sender_after config k before)

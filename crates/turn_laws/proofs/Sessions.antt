@@ -1,4 +1,4 @@
--- A session whose link delivers nothing else that is signed: what came signed was made by its turns.
+-- A session: what a read group took was made by its turns, where it was sent before; and what came signed was, where the link delivers nothing else that is.
 use Rattle.std.proofs.Common.{◌≡◌, sym, ap, subst, arith, ℕ, zero, suc, ◌<◌, List, [], ◌∷◌, ◌++◌, length, map, Some, Contains}
 use Rattle.std.specs.Prelude.{slice_get}
 use Rattle.std.proofs.lemmas.List.{length-map}
@@ -19,7 +19,7 @@ use Rattle.session_model.specs.Steps.{Plan, Step, Enable, Disable, Append, Tick,
 use Rattle.session_laws.specs.Below.{Laws}
 use Rattle.session_laws.specs.Pasts.{IsMade}
 use Rattle.session_laws.specs.Sessions.{IsHonestFor, pasts_at}
-use Rattle.session_laws.proofs.HeldRows.Sending.{all-restarts, sent-made}
+use Rattle.session_laws.proofs.HeldRows.Sending.{all-restarts, came-as-made, sent-made}
 use Rattle.turn_laws.specs.Makers.{HasItsRecords, IsSignedSession, IsSigning, SignedWereMade, its_setting, its_way, signed_session, signing_of}
 use Rattle.turn_laws.specs.Sent.{NamesPlaces, place_near, sends_in}
 use Rattle.turn_laws.proofs.Befalling.{got-if, stopped-keeps}
@@ -67,6 +67,10 @@ module _ (p : Plan) (r : ℕ) (pasts : ℕ → List GroupDeed) where
 
 -- ---- the session
 
+-- each datagram that came signed was made, where the link delivers nothing else that is
+pub session-signed : (p : Plan) (r : ℕ) (steps : List Step) → IsRun p steps → IsHonestFor (setting_of p.config r) (journal p steps) → SignedWereMade (setting_of p.config r) p.config (pasts_at p steps) (events p.config r steps)
+session-signed p r steps run honest = steps-so p r (pasts_at p steps) steps (honest-made p r steps run honest)
+
 pub session-signing : Laws → (most : ℕ) (p : Plan) (r i g w k : ℕ) (steps : List Step) (place : ℕ → ℕ → ℕ → ℕ) → NamesPlaces place (sends_in p.config k g w (deeds p steps)) → IsSignedSession most p r i g w k steps
     → IsSigning (signing_of p r i g w k steps place)
 session-signing laws most p r i g w k steps place names is = record {
@@ -77,7 +81,7 @@ session-signing laws most p r i g w k steps place names is = record {
   matched = is.matched;
   numbered = is.numbered;
   names = names;
-  came = steps-so p r (pasts_at p steps) steps (honest-made p r steps is.run is.honest);
+  came = came-as-made p r steps is.run is.takes;
 }
 
 -- ---- a reader of it

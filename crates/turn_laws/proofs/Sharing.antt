@@ -249,7 +249,7 @@ module _ (p : Plan) (k g w : ℕ) (plan : IsPlan p) (there : g < length p.config
 
 -- ---- over any deeds whose turns are those of the definitions
 
-pub own-risen : (config : Config) (k g w : ℕ) → (group_at config g).keygroup ≡ Some k → w < length (group_at config g).writer → (list : List Deed) → AreRingTurns config list → RisenAt config k g w list
+pub own-risen : (config : Config) (k g w : ℕ) → (group_at config g).keygroup ≡ Some k → w < length (group_at config g).writer → (list : List Deed) → AreRingTurns config k list → RisenAt config k g w list
 own-risen config k g w keyed within [] are = risen-none config k g w
 own-risen config k g w keyed within (RefreshedBelow component ∷ before) are = risen-below config k g w component before (own-risen config k g w keyed within before are)
 own-risen config k g w keyed within (RefreshedSet set ∷ before) are = risen-set config k g w set before (own-risen config k g w keyed within before are)
@@ -258,9 +258,10 @@ own-risen config k g w keyed within (RenewedKeys keygroup sets ∷ before) are =
 own-risen config k g w keyed within (TookTurn other turn ∷ before) are =
     risen-turn config k g w other turn before keyed
     (λ frame same e.
-    turn-makes (with_rings config are.0.rings) (group_at config g) w (group_past config g before) turn frame
-    (subst (λ (n : ℕ). IsTurn (with_rings config are.0.rings) (group_at config n) (group_past config n before) turn) same are.0.is) within e)
-    (own-risen config k g w keyed within before are.1)
+    let own = are.1 (subst (λ (n : ℕ). (group_at config n).keygroup ≡ Some k) (sym same) keyed) in
+    turn-makes (with_rings config own.rings) (group_at config g) w (group_past config g before) turn frame
+    (subst (λ (n : ℕ). IsTurn (with_rings config own.rings) (group_at config n) (group_past config n before) turn) same own.is) within e)
+    (own-risen config k g w keyed within before are.2)
 
 -- ---- what the laws say
 
@@ -271,4 +272,4 @@ pub life-rise : (p : Plan) (k g w : ℕ) (life : List Lived) → IsPlan p → Is
 life-rise p k g w life plan under = (life-risen p k g w plan under.there under.within under.keyed life).each
 
 pub any-rise : (config : Config) (k g w : ℕ) (list : List Deed) → IsWriterUnder config k g w → AreOwnTurns config list → SendsRise (sends_in config k g w list)
-any-rise config k g w list under are = (own-risen config k g w under.keyed under.within list (ring-turns config list are)).each
+any-rise config k g w list under are = (own-risen config k g w under.keyed under.within list (ring-turns config k list are)).each

@@ -1,6 +1,6 @@
 -- The turns of a session of however many ticks are those of the definitions, where they hold; and each turn of a life is one of the configuration with a ring of its
 -- sender's keys alone.
-use Rattle.std.proofs.Common.{◌≡◌, refl, sym, ap, subst, arith, ℕ, ◌+◌, ◌<◌, ◌^◌, Bool, true, List, [], ◌∷◌, length, Option, Some, None, IfSome}
+use Rattle.std.proofs.Common.{◌≡◌, refl, sym, ap, subst, arith, ℕ, ◌+◌, ◌<◌, ◌^◌, Bool, true, List, [], ◌∷◌, length, Option, Some, IfSome}
 use Rattle.std.specs.Prelude.{option_map}
 use Rattle.std.proofs.lemmas.List.FromFn.{length-map-range_with_len}
 use Rattle.std.proofs.lemmas.Option.{slice_get-get_or}
@@ -33,9 +33,9 @@ use Rattle.session_laws.proofs.Versions.Metas.{meta-of}
 use Rattle.session_laws.proofs.Versions.Rowing.{as-many, fit-at, meta-is, turn-is}
 use Rattle.session_laws.proofs.Versions.Senders.{SendHolds, group-keyed, left-by, not-spent, send-holds}
 use Rattle.turn_laws.specs.Makers.{AreOwnTurns}
-use Rattle.turn_laws.proofs.LifeKeys.{Fits, HasKeysOf, HaveKeysOf, have-use}
+use Rattle.turn_laws.proofs.LifeKeys.{Fits, HasKeysOf}
 use Rattle.turn_laws.proofs.OneKey.{one-fixed, one-sender, one-sound, one_keys}
-use Rattle.turn_laws.proofs.Rings.{IsRingTurn, with_rings}
+use Rattle.turn_laws.proofs.Rings.{IsRingTurn, IsWrittenTurn, with_rings}
 
 -- ---- a session
 
@@ -123,15 +123,8 @@ module _ (words : WordLaws) (most : ℕ) (p : Plan) (before : List Step) (now : 
         sender = refl;
       }
 
-  -- of a group without keys
-  open-turn : HoldsTurn p.config group past input → group.keygroup ≡ None → IsRingTurn p.config g earlier (turn_of p before now closing samples earlier g)
-  open-turn holds keyed =
-      let unsecured = (subst (IsKeyed p.config (is_secured group.security)) keyed (group-keyed p.config g plan.good.sound there)).keyed in
-      ring-turn p.config.keygroup plan.good.sound plan.good.fixed holds
-      (subst (λ (o : Option ℕ). MaySend p.config group (length payloads) (option_map (λ (k : ℕ). sender_after p.config k earlier) o)) (sym keyed) unsecured)
-
-  -- of one whose sender has keys that fit its policy
-  keyed-turn : (P : KeySet → Type 0) (k : ℕ) → ((set : KeySet) → P set → Fits p.config k set) → HoldsTurn p.config group past input → has_turn p before now closing earlier g ≡ true → group.keygroup ≡ Some k
+  -- of a group whose sender has keys that fit its policy
+  pub keyed-turn : (P : KeySet → Type 0) (k : ℕ) → ((set : KeySet) → P set → Fits p.config k set) → HoldsTurn p.config group past input → has_turn p before now closing earlier g ≡ true → group.keygroup ≡ Some k
       → HasKeysOf P (keygroup_at p.config k) (sender_after p.config k earlier) → IsRingTurn p.config g earlier (turn_of p before now closing samples earlier g)
   keyed-turn P k fits holds has keyed from =
       let s = sender_after p.config k earlier in
@@ -148,13 +141,6 @@ module _ (words : WordLaws) (most : ℕ) (p : Plan) (before : List Step) (now : 
       ring-turn rings (one-sound p.config policy from.set fit plan.good.sound) (one-fixed p.config policy from.set fit plan.good.fixed) holds
       (subst (λ (o : Option ℕ). MaySend ringed group (length payloads) (option_map (λ (n : ℕ). sender_after p.config n earlier) o)) (sym keyed) may)
 
-  -- of any, where each sender has keys that fit its policy
-  pub life-turn : (P : ℕ → KeySet → Type 0) → ((k : ℕ) → k < length p.config.keygroup → (set : KeySet) → P k set → Fits p.config k set) → HoldsTurn p.config group past input → has_turn p before now closing earlier g ≡ true
-      → HaveKeysOf P p.config earlier → IsRingTurn p.config g earlier (turn_of p before now closing samples earlier g)
-  life-turn P fits holds has have = on group.keygroup refl
-    where
-      on : (o : Option ℕ) → group.keygroup ≡ o → IsRingTurn p.config g earlier (turn_of p before now closing samples earlier g)
-      on None keyed = open-turn holds keyed
-      on (Some k) keyed =
-          let here : k < length p.config.keygroup = (subst (IsKeyed p.config (is_secured group.security)) keyed (group-keyed p.config g plan.good.sound there)).there in
-          keyed-turn (P k) k (fits k here) holds has keyed (have-use P p.config earlier k have here)
+  -- of any its headers can be written
+  pub written-turn : HoldsTurn p.config group past input → IsWrittenTurn p.config group past (turn_of p before now closing samples earlier g)
+  written-turn holds = record { input = input; is = refl; written = holds.written }

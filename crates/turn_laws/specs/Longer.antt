@@ -10,7 +10,8 @@ use Rattle.session_laws.specs.Plays.{Play}
 use Rattle.session_laws.specs.Reading.{IsMatchedIn}
 use Rattle.session_laws.specs.Sessions.{SamplesRise, TakesWhatWasSent, pasts_at}
 
--- `InSession`, of a session of so many ticks beside the closing one: a reader is matched to a writer, and each datagram that its read group takes was sent before
+-- `InSession`, of a session of so many ticks beside the closing one: a reader is matched to a writer, each datagram that its read group takes was sent before, and
+-- the versions that are sampled don't fall
 pub record IsLongerSession (most : ℕ) (p : Plan) (r i g w : ℕ) (steps : List Step) : Type 0 where
   pub plan : IsPlan p
   pub steps_are : AreStepsOf most p steps

@@ -1,5 +1,5 @@
 //! Sessions, and a life, in which what comes signed was made by the sender.
-ghost use Rattle.std.specs.Prelude.{ℕ, Bool, List, []};
+ghost use Rattle.std.specs.Prelude.{◌≡◌, ℕ, Bool, List, [], ◌∷◌, map};
 ghost use Rattle.reader_group.specs.Plain.{Setting};
 ghost use Rattle.writer_group.specs.declared.sampled.Sampled.{Sampled};
 ghost use Rattle.session_model.specs.Counts.{most_ticks};
@@ -8,9 +8,11 @@ ghost use Rattle.session_model.specs.Steps.{Plan, Step};
 ghost use Rattle.session_laws.specs.Delivered.{delivered_on};
 ghost use Rattle.session_laws.specs.Sessions.{IsHonestFor};
 ghost use Rattle.session_laws.specs.Witness.{three_plan, three_session};
-ghost use Rattle.turn_laws.specs.Lives.{IsSignedLife, between_life};
+ghost use Rattle.turn_laws.specs.Anew.{IsRekeyedBy, keyed_turns_in};
+ghost use Rattle.turn_laws.specs.Lives.{IsSignedLife, between_life, renewed_tick_life, ringed_life};
 ghost use Rattle.turn_laws.specs.Makers.{IsSignedSession};
 
+use reader_group::what_a_secured_group_takes_is_signed;
 use session_laws::{
     a_signed_life_meets_the_premises, each_turn_of_a_life_holds, each_turn_of_a_session_holds,
     sessions_of_each_kind_meet_the_premises,
@@ -30,12 +32,19 @@ pub fn signed_sessions_meet_the_premises()
     each_turn_of_a_session_holds();
 }
 
-/// A life of the session of the three groups is one for the reader of the signed group: a ring with the key of the configuration and a
-/// later one renews the key group behind the tick, before the pump gets all that the tick sent.
+/// Lives of the three groups are such for the reader of the signed group. In one a ring with the key of the configuration and a later
+/// one renews the key group behind the closing tick, before the pump gets all that the tick sent (`between`). In the other it does so
+/// behind a tick at a second, and the closing tick is under the ring's later key: all that both send comes (`ringed`). The signed group's
+/// writer had a turn under the configuration's token and then one under the ring's (`tokens`), to which that tick changed (`rekeyed`).
 pub fn a_renewed_life_meets_the_premises()
-    ensures { IsSignedLife most_ticks three_plan 0 0 0 0 0 between_life }
+    ensures between { IsSignedLife most_ticks three_plan 0 0 0 0 0 between_life }
+    ensures ringed { IsSignedLife most_ticks three_plan 0 0 0 0 0 ringed_life }
+    ensures tokens { map (λ turn. turn.token) (keyed_turns_in three_plan 0 0 0 ringed_life)
+        ≡ 2 ∷ 1 ∷ [] }
+    ensures rekeyed { IsRekeyedBy three_plan 0 0 renewed_tick_life 0 }
 {
     sessions_of_each_kind_meet_the_premises();
     a_signed_life_meets_the_premises();
     each_turn_of_a_life_holds();
+    what_a_secured_group_takes_is_signed();
 }
