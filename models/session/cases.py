@@ -55,6 +55,15 @@ R1 = "reader r1 operational number"
 row("the built-in configuration, one write and one tick", None, [WRITE, "tick 100"], expect=[
     "history demo 1: 0", "group g1 operational sent 2", "writer w1 operational 2: 0=1 1=1", "readgroup rg1 operational taken 2:",
     f"{R1} 1 version 1: a=7 b=0 c=0 d=0", "gaps r1 0:", "link sent 2 failed 0 received 2 broken 0 long 0 limit 0", "end"])
+row("the same, and the first datagram is lost", None, [WRITE, "tick 100", "fate 0 drop"], expect=[
+    "history demo 1: 0", "group g1 operational sent 2", "writer w1 operational 2: 0=1 1=1", "readgroup rg1 operational taken 1:",
+    f"{R1} 1 version 1: a=7 b=0 c=0 d=0", "gaps r1 0:", "link sent 2 failed 0 received 1 broken 0 long 0 limit 0", "end"])
+row("the closing one is lost", None, [WRITE, "tick 100", "fate 1 drop"], expect=[
+    "history demo 1: 0", "group g1 operational sent 2", "writer w1 operational 2: 0=1 1=1", "readgroup rg1 operational taken 1:",
+    f"{R1} 0 version 1: a=7 b=0 c=0 d=0", "gaps r1 0:", "link sent 2 failed 0 received 1 broken 0 long 0 limit 0", "end"])
+row("both are lost", None, [WRITE, "tick 100", "fate 0 drop", "fate 1 drop"], expect=[
+    "history demo 1: 0", "group g1 operational sent 2", "writer w1 operational 2: 0=1 1=1", "readgroup rg1 operational taken 0:",
+    "reader r1 preoperational waits start", "gaps r1 0:", "link sent 2 failed 0 received 0 broken 0 long 0 limit 0", "end"])
 row("an empty script", None, [], expect=[
     "history demo 0:", "group g1 operational sent 1", "writer w1 operational 1: 0=0", "readgroup rg1 operational taken 1:",
     f"{R1} 0 version 0: a=0 b=0 c=0 d=0", "gaps r1 0:", "link sent 1 failed 0 received 1 broken 0 long 0 limit 0"])

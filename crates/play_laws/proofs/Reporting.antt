@@ -222,20 +222,20 @@ module _ (law : FatedLaw) where
   pub first-reports : (link : MemoryLink) (closed : Closed) → IsPlayedOver link ((0, fates.Drop) ∷ []) closed → ReportsSo closed first_lost_run first_lost_text
   first-reports link closed over =
       let ends = first-so law link closed over in
-      let k = ends-told law link ((0, fates.Drop) ∷ []) ((0, fates.Drop) ∷ []) closed refl refl refl over in
+      let k = ends-told law link ((0, fates.Drop) ∷ []) ((3, (0, fates.Drop)) ∷ []) closed refl refl refl over in
       let is = closes first_lost closed 1 Operational (Some first_held) (Some small_row) (Some 1) first-leaves ends (held-row first_lost closed (Some 1) ends refl) k.histories k.watches in
       record { closed_is = is; report_is = ap (report_text built_in_config) is ∙ first-text }
 
   pub last-reports : (link : MemoryLink) (closed : Closed) → IsPlayedOver link ((1, fates.Drop) ∷ []) closed → ReportsSo closed last_lost_run last_lost_text
   last-reports link closed over =
       let ends = last-so law link closed over in
-      let k = ends-told law link ((1, fates.Drop) ∷ []) ((1, fates.Drop) ∷ []) closed refl refl refl over in
+      let k = ends-told law link ((1, fates.Drop) ∷ []) ((3, (1, fates.Drop)) ∷ []) closed refl refl refl over in
       let is = closes last_lost closed 1 Operational (Some (record first_held { number = Some 0 })) (Some small_row) (Some 0) last-leaves ends (held-row last_lost closed (Some 0) ends refl) k.histories k.watches in
       record { closed_is = is; report_is = ap (report_text built_in_config) is ∙ last-text }
 
   pub both-reports : (link : MemoryLink) (closed : Closed) → IsPlayedOver link ((0, fates.Drop) ∷ (1, fates.Drop) ∷ []) closed → ReportsSo closed both_lost_run both_lost_text
   both-reports link closed over =
       let ends = both-so law link closed over in
-      let k = ends-told law link ((0, fates.Drop) ∷ (1, fates.Drop) ∷ []) ((1, fates.Drop) ∷ (0, fates.Drop) ∷ []) closed refl refl refl over in
+      let k = ends-told law link ((0, fates.Drop) ∷ (1, fates.Drop) ∷ []) ((4, (1, fates.Drop)) ∷ (3, (0, fates.Drop)) ∷ []) closed refl refl refl over in
       let is = closes both_lost closed 0 PreOperational None None None both-leaves ends (held-none both_lost closed ends) k.histories k.watches in
       record { closed_is = is; report_is = ap (report_text built_in_config) is ∙ both-text }

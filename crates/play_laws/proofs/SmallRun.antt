@@ -145,7 +145,14 @@ written : samples_after small_plan.full (write_line ∷ []) ≡ seven ∷ []
 unfolding small_plan demo seven patched_words patch_in row_in statuses_in spelled_row spelled_statuses opening_words
 written = refl
 
-behind-fates : (p : Plan) (fated : List (ℕ × Fate)) (before : List Line) (steps : List Step) (looks : List WatchEnd) → IsPlayed p (map fate_line fated ++ before) steps looks → (looked : List WatchEnd) × IsPlayed p before steps looked
+-- a fate with the number of its line
+abbrev pub Placed : Type 0
+Placed = ℕ × (ℕ × Fate)
+
+abbrev pub placed_line : Placed → Line
+placed_line placed = fate_line placed.0 placed.1
+
+behind-fates : (p : Plan) (fated : List Placed) (before : List Line) (steps : List Step) (looks : List WatchEnd) → IsPlayed p (map placed_line fated ++ before) steps looks → (looked : List WatchEnd) × IsPlayed p before steps looked
 behind-fates p [] before steps looks h = (looks, h)
 behind-fates p (fate ∷ fated) before steps looks h =
     let rest = behind-fates p fated before h.0 h.1 h.2 in
@@ -182,8 +189,8 @@ record Known (fated : List (ℕ × Fate)) (closed : Closed) : Type 0 where
   histories : map (λ history. history.threads) closed.histories ≡ map (writers_in (small_script fated)) (range_with_len 0 (length built_in_config.dataset))
   watches : closed.watches ≡ by_threads looks
 
-settles : (fated back : List (ℕ × Fate)) (w0 w1 : List (List ℕ)) (closed : Closed) → reverse (small_script fated).lines ≡ map fate_line back ++ tick_line ∷ write_line ∷ []
-    → samples_after small_plan.full (map fate_line back ++ tick_line ∷ write_line ∷ []) ≡ seven ∷ [] → Waits fated w0 w1 → Known fated closed → IsClosedAfter small_plan (settled w0 w1) closed
+settles : (fated : List (ℕ × Fate)) (back : List Placed) (w0 w1 : List (List ℕ)) (closed : Closed) → reverse (small_script fated).lines ≡ map placed_line back ++ tick_line ∷ write_line ∷ []
+    → samples_after small_plan.full (map placed_line back ++ tick_line ∷ write_line ∷ []) ≡ seven ∷ [] → Waits fated w0 w1 → Known fated closed → IsClosedAfter small_plan (settled w0 w1) closed
 settles fated back w0 w1 closed lines samples waits k =
     let played = subst (λ (l : List Line). IsPlayed small_plan l k.earlier k.looks) lines k.played in
     let rest = behind-fates small_plan back (tick_line ∷ write_line ∷ []) k.earlier k.looks played in
@@ -248,7 +255,7 @@ none-wait = record {
   short1 = All-nil (λ (datagram : List ℕ). length datagram ≤ longest_datagram);
 }
 
-lines-samples : (fated : List (ℕ × Fate)) → samples_after small_plan.full (map fate_line fated ++ tick_line ∷ write_line ∷ []) ≡ samples_after small_plan.full (write_line ∷ [])
+lines-samples : (fated : List Placed) → samples_after small_plan.full (map placed_line fated ++ tick_line ∷ write_line ∷ []) ≡ samples_after small_plan.full (write_line ∷ [])
 unfolding small_plan
 lines-samples [] = refl
 lines-samples (fate ∷ fated) = lines-samples fated
@@ -271,21 +278,21 @@ module _ (law : FatedLaw) where
   pub first-so : (link : MemoryLink) (closed : Closed) → IsPlayedOver link ((0, fates.Drop) ∷ []) closed → EndsBehind first_lost closed (Some small_row) (Some 1) Start
   first-so link closed over =
       let k = known law link ((0, fates.Drop) ∷ []) closed refl over in
-      first-ends closed (settles ((0, fates.Drop) ∷ []) ((0, fates.Drop) ∷ []) [] (small_datagram 1 ∷ []) closed refl (lines-samples ((0, fates.Drop) ∷ []) ∙ written) first-wait k)
+      first-ends closed (settles ((0, fates.Drop) ∷ []) ((3, (0, fates.Drop)) ∷ []) [] (small_datagram 1 ∷ []) closed refl (lines-samples ((3, (0, fates.Drop)) ∷ []) ∙ written) first-wait k)
 
   pub last-so : (link : MemoryLink) (closed : Closed) → IsPlayedOver link ((1, fates.Drop) ∷ []) closed → EndsBehind last_lost closed (Some small_row) (Some 0) Start
   last-so link closed over =
       let k = known law link ((1, fates.Drop) ∷ []) closed refl over in
-      last-ends closed (settles ((1, fates.Drop) ∷ []) ((1, fates.Drop) ∷ []) (small_datagram 0 ∷ []) [] closed refl (lines-samples ((1, fates.Drop) ∷ []) ∙ written) last-wait k)
+      last-ends closed (settles ((1, fates.Drop) ∷ []) ((3, (1, fates.Drop)) ∷ []) (small_datagram 0 ∷ []) [] closed refl (lines-samples ((3, (1, fates.Drop)) ∷ []) ∙ written) last-wait k)
 
   pub both-so : (link : MemoryLink) (closed : Closed) → IsPlayedOver link ((0, fates.Drop) ∷ (1, fates.Drop) ∷ []) closed → EndsBehind both_lost closed None None Start
   both-so link closed over =
       let k = known law link ((0, fates.Drop) ∷ (1, fates.Drop) ∷ []) closed refl over in
-      both-ends closed (settles ((0, fates.Drop) ∷ (1, fates.Drop) ∷ []) ((1, fates.Drop) ∷ (0, fates.Drop) ∷ []) [] [] closed refl (lines-samples ((1, fates.Drop) ∷ (0, fates.Drop) ∷ []) ∙ written) none-wait k)
+      both-ends closed (settles ((0, fates.Drop) ∷ (1, fates.Drop) ∷ []) ((4, (1, fates.Drop)) ∷ (3, (0, fates.Drop)) ∷ []) [] [] closed refl (lines-samples ((4, (1, fates.Drop)) ∷ (3, (0, fates.Drop)) ∷ []) ∙ written) none-wait k)
 
 -- ---- its history and its watches
 
-looks-behind : (p : Plan) (fated : List (ℕ × Fate)) (before : List Line) (steps : List Step) (looks : List WatchEnd) (h : IsPlayed p (map fate_line fated ++ before) steps looks) → looks ≡ (behind-fates p fated before steps looks h).0
+looks-behind : (p : Plan) (fated : List Placed) (before : List Line) (steps : List Step) (looks : List WatchEnd) (h : IsPlayed p (map placed_line fated ++ before) steps looks) → looks ≡ (behind-fates p fated before steps looks h).0
 unfolding behind-fates
 looks-behind p [] before steps looks h = refl
 looks-behind p (fate ∷ fated) before steps looks h = h.3.1 ∙ looks-behind p fated before h.0 h.1 h.2
@@ -298,7 +305,7 @@ pub record Told (closed : Closed) : Type 0 where
   pub watches : closed.watches ≡ []
 
 module _ (law : FatedLaw) where
-  pub ends-told : (link : MemoryLink) (fated back : List (ℕ × Fate)) (closed : Closed) → fates_of (small_script fated).lines ≡ fated → reverse (small_script fated).lines ≡ map fate_line back ++ tick_line ∷ write_line ∷ []
+  pub ends-told : (link : MemoryLink) (fated : List (ℕ × Fate)) (back : List Placed) (closed : Closed) → fates_of (small_script fated).lines ≡ fated → reverse (small_script fated).lines ≡ map placed_line back ++ tick_line ∷ write_line ∷ []
       → map (writers_in (small_script fated)) (0 ∷ []) ≡ (0 ∷ []) ∷ [] → IsPlayedOver link fated closed → Told closed
   unfolding built_in_config
   ends-told link fated back closed same lines authors over =

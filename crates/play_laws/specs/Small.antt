@@ -1,5 +1,5 @@
 -- A script that gives datagrams their fates, played over a link in memory: `write 0 demo a=7`, `tick 100`, and the fates.
-use Rattle.std.specs.Prelude.{◌≡◌, ◌-◌, ◌^◌, ℕ, false, List, [], ◌∷◌, map, replicate, Option, Some, IsSome, Result, Err, IsOk}
+use Rattle.std.specs.Prelude.{◌≡◌, ◌+◌, ◌-◌, ◌^◌, ℕ, false, List, [], ◌∷◌, replicate, Option, Some, IsSome, Result, Err, IsOk}
 use Rattle.dataset_meta.specs.DataValues.{DataValue}
 use Rattle.row_words.specs.declared.patch.Patch.{Patch}
 use Rattle.pubsub_model.specs.declared.reading.Why.{Why}
@@ -34,11 +34,17 @@ write_line = record { at = 1; act = act.Write 0 0 small_patch }
 abbrev pub tick_line : Line
 tick_line = record { at = 2; act = act.Tick 100 }
 
-abbrev pub fate_line : ℕ × Fate → Line
-fate_line fated = record { at = 3; act = act.Fated fated.0 fated.1 }
+-- the line of a fate, with its number
+abbrev pub fate_line : ℕ → ℕ × Fate → Line
+fate_line at fated = record { at = at; act = act.Fated fated.0 fated.1 }
+
+-- a line for each, numbered from this one on
+abbrev pub fate_lines : ℕ → List (ℕ × Fate) → List Line
+fate_lines at [] = []
+fate_lines at (fated ∷ fates) = fate_line at fated ∷ fate_lines (at + 1) fates
 
 abbrev pub small_script : List (ℕ × Fate) → Script
-small_script fates = record { lines = write_line ∷ tick_line ∷ map fate_line fates; metas = demo ∷ [] }
+small_script fates = record { lines = write_line ∷ tick_line ∷ fate_lines 3 fates; metas = demo ∷ [] }
 
 -- ---- over a link in memory
 
