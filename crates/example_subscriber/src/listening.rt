@@ -75,9 +75,8 @@ fn hear<R: Files + Print + Clock, L: Link>(
     listener.show(rt, now)?;
     match received {
         Received::Datagram(count) => {
-            if listener.datagram(now, &mut buffer[..count as usize])? {
-                look_for_keys(rt, alloc, config, now, file, listener)?;
-            }
+            let datagram = &mut buffer[..count as usize];
+            take(rt, alloc, config, now, file, listener, datagram)?;
             listener.show(rt, now)?;
             Ok(now)
         }
@@ -89,22 +88,48 @@ fn hear<R: Files + Print + Clock, L: Link>(
     }
 }
 
-/// Goes on with the keys that the file has now, where it has some.
-fn look_for_keys<R: Files + Print>(
+/// What a datagram brings. One that comes under a later token than the keys have is given once more, where the file has its key now.
+fn take<R: Files + Print>(
     rt: &R,
     alloc: Global,
     config: &Config,
     now: u64,
     file: &mut KeyFile<'_>,
     listener: &mut Listener<'_>,
+    datagram: &mut [u8],
 ) -> Result<(), Fault>
     requires good { IsGood config.now }
     requires listener { IsListener listener.old }
     ensures listener { IsListener listener.new }
 {
+    if !listener.datagram(now, datagram)? {
+        return Ok(());
+    }
+    if finds_keys(rt, alloc, config, now, file, listener)? {
+        listener.datagram(now, datagram)?;
+    }
+    Ok(())
+}
+
+/// Goes on with the keys that the file has now, where it has some. The answer is whether it has.
+fn finds_keys<R: Files + Print>(
+    rt: &R,
+    alloc: Global,
+    config: &Config,
+    now: u64,
+    file: &mut KeyFile<'_>,
+    listener: &mut Listener<'_>,
+) -> Result<bool, Fault>
+    requires good { IsGood config.now }
+    requires listener { IsListener listener.old }
+    ensures listener { IsListener listener.new }
+{
     match file.ring(rt, alloc, now, config) {
-        Some(ring) => listener.renew(rt, now, ring),
-        None => Ok(()),
+        Some(ring) => {
+            listener.renew(rt, now, ring)?;
+            Ok(true)
+        }
+        None => Ok(false),
     }
 }
 
