@@ -279,6 +279,13 @@ accepted-other = accepted-pair 500 7 6 (lit< tt)
 pub other-covered : (ring : Ring) → IsSmallRing ring → IsCoveredSender ring 0 2 500 other_sender
 other-covered ring is = covered-500 ring other_sender is (uses-of-two ring 500 other_sender is two-keys)
 
+two-covered-then : IsCovered two_sets 0 2 1500
+unfolding two_sets
+two-covered-then = record { begun = lit≤ tt; not_over = lit< tt }
+
+pub covered-then : (ring : Ring) → IsSmallRing ring → IsCovered (key_sets ring) 0 2 1500
+covered-then ring is = subst (λ (sets : List KeySet). IsCovered sets 0 2 1500) (sym is.sets) two-covered-then
+
 two-late : current two_sets 1500 ≡ Some (set_of 2 1000 8)
 unfolding two_sets
 two-late = refl

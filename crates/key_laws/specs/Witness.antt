@@ -84,8 +84,7 @@ small_datagram = header_bytes small_header ++ (1 ∷ 2 ∷ 3 ∷ []) ++ replicat
 abbrev pub small_steps : List SenderStep
 small_steps = TurnTo 1000 ∷ Renew two_sets ∷ Front Encrypt ∷ []
 
--- what may befall the later sender, once the other ring renewed it: it comes to a moment, gives a front that serves a datagram, is
--- renewed by a third ring, and gives another front
+-- steps with the later sender, once the other ring renewed it: a moment, a front, a datagram, a third ring, and another front
 unfoldable pub late_steps : List SenderStep
 late_steps = TurnTo 1600 ∷ Front Encrypt ∷ Protect Encrypt small_datagram small_payload ∷ Renew (set_of 2 0 5 ∷ []) ∷ Front Encrypt ∷ []
 

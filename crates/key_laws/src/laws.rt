@@ -36,8 +36,8 @@ pub fn a_guard_of_a_pulled_ring_is_a_pullers_guard()
         → key_sets ring ≡ pulled_sets (later clock keys) → IsPulledRing keys ring }
 {}
 
-/// A ring that a puller makes of what was read of the answer's bytes is one that it makes of the answer, and a guard over it is a
-/// puller's guard.
+/// A ring that a puller makes of what was read of the bytes of a served ring's answer is one that it makes of the answer, and a guard
+/// over it is a puller's guard.
 pub fn a_readers_guard_is_a_pullers_guard()
     ensures ring { (ring : Ring) (now count : ℕ) (back : Keys) (pulled : Ring) → IsServedRing ring
         → reply_in (reply_bytes (answer ring now 0 count)) ≡ Ok back
@@ -62,7 +62,7 @@ pub fn a_guard_of_a_pulled_ring_has_the_senders_keys()
         → IsCoveredSender ring now count moment s → HasSendersKeys ring now count s }
 {}
 
-/// The publisher's sender, whatever is sent with it while its moments don't fall, and where nothing but its own ring renews it, is the
+/// The publisher's sender of a served ring, whatever is sent with it while its moments don't fall, and where nothing but its own ring renews it, is the
 /// publisher's sender at the last of these.
 pub fn a_publishers_sender_goes_on()
     ensures { (ring : Ring) (s : SenderState) → StaysPublisher ring s }
@@ -99,8 +99,9 @@ pub fn tokens_never_fall()
     ensures guard { (first : List TokenKeys) → AcceptsNoLowerToken first }
 {}
 
-/// A ring without a higher token than the one in use changes nothing that is sent: the sender keeps token, keys and number at whichever
-/// moment, and makes the same security headers and datagrams, until a ring brings a higher token.
+/// A ring without a higher token than the one in use changes nothing that is sent, but that no later token of the ring before comes: the
+/// sender keeps token, keys and number at whichever moment, and makes the security headers and datagrams that it would make if it came
+/// to no moment and no ring, until a ring brings a higher token.
 pub fn a_ring_of_lower_tokens_changes_nothing_sent()
     ensures { (s : SenderState) (sets : List KeySet) → AreNoHigher s.keys.token sets
         → ChangesNothingSent s sets }

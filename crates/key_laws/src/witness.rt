@@ -5,6 +5,7 @@ ghost use Rattle.group_keys.specs.Faults.{IsAccepted};
 ghost use Rattle.group_keys.specs.Ring.{key_sets};
 ghost use Rattle.key_service.specs.Answers.{answer};
 ghost use Rattle.key_service.specs.Pulled.{IsPullableAt, as_read, later, pulled_sets};
+ghost use Rattle.key_service.specs.Laws.{IsCovered};
 ghost use Rattle.key_laws.specs.Lower.{AreNoHigher, RenewNoHigher};
 ghost use Rattle.key_laws.specs.Pulled.{AreInOrder, AreOfRing, IsCoveredSender, IsMade, IsGuardOver, IsPublisherAt, IsPulledRing, IsPullersGuard, IsReadersGuard, UsesKeysAt, pulled_keys};
 ghost use Rattle.key_laws.specs.Renewing.{IsNotAhead, TakesOn};
@@ -48,13 +49,14 @@ pub fn a_small_ring_meets_the_premises()
     ensures calls { AreAcceptableCalls (map keys_in two_sets) small_calls }
 {}
 
-/// A sender that another ring renewed is covered by the answer, and the ring takes it on at a moment under the second set. The
+/// A sender that another ring renewed is covered by the answer, and the ring takes it on at a covered moment under the second set. The
 /// publisher's sender of that moment has its token and keys in the ring, and isn't ahead of it; the other ring has no higher token than
 /// this, nor has a third that renews it among further steps.
 pub fn other_rings_meet_the_premises()
     ensures accepted { IsAccepted false other_sets }
     ensures covered { (ring : Ring) → IsSmallRing ring → IsCoveredSender ring 0 2 500 other_sender }
     ensures takes_on { (ring : Ring) → IsSmallRing ring → TakesOn ring 1500 other_sender }
+    ensures covered_then { (ring : Ring) → IsSmallRing ring → IsCovered (key_sets ring) 0 2 1500 }
     ensures publisher { (ring : Ring) → IsSmallRing ring → IsPublisherAt ring 1500 late_sender }
     ensures keeps { (ring : Ring) → IsSmallRing ring → KeepsToken late_sender (key_sets ring) }
     ensures not_ahead { (ring : Ring) → IsSmallRing ring → IsNotAhead ring 1500 late_sender }

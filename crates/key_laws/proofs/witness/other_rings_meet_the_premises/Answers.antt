@@ -1,4 +1,4 @@
-use Rattle.key_laws.proofs.Small.{accepted-other, late-is-sender, late-kept, late-not-ahead, late-publisher, late-steps-no-higher, other-covered, other-no-higher, other-taken}
+use Rattle.key_laws.proofs.Small.{accepted-other, covered-then, late-is-sender, late-kept, late-not-ahead, late-publisher, late-steps-no-higher, other-covered, other-no-higher, other-taken}
 use Rattle.key_laws.proofs.witness.other_rings_meet_the_premises.Goals as goal
 
 pub returns : goal.returns
@@ -6,6 +6,7 @@ returns c = record {
   accepted = accepted-other;
   covered = other-covered;
   takes_on = other-taken;
+  covered_then = covered-then;
   publisher = late-publisher;
   keeps = late-kept;
   not_ahead = late-not-ahead;
