@@ -1,5 +1,5 @@
 -- A life whose second tick is under a token that a ring brought meets the premises of the laws of lives.
-use Rattle.std.proofs.Common.{◌≡◌, refl, sym, ap, ◌∙◌, subst, arith, ℕ, ◌+◌, ◌<◌, ◌≤◌, ◌^◌, lit<, lit≤, Bool, true, false, List, [], ◌∷◌, ◌++◌, length, map, Some, All}
+use Rattle.std.proofs.Common.{◌≡◌, refl, sym, ap, ◌∙◌, subst, arith, ℕ, ◌+◌, ◌<◌, ◌≤◌, ◌^◌, lit<, lit≤, Bool, true, false, List, [], ◌∷◌, ◌++◌, length, map, Some, All, inl, inr}
 use Rattle.std.specs.Prelude.{slice_index_or}
 use Rattle.std.proofs.lemmas.List.{length-append, length-map}
 use Rattle.std.proofs.lemmas.List.Elements.{All-append, All-cons, All-nil, Contains-append_right}
@@ -10,16 +10,18 @@ use Rattle.uadp_header.proofs.Lengths.{length-header}
 use Rattle.frame_codec.specs.Spelling.{frame_bytes, front_bytes}
 use Rattle.row_words.specs.Belonging.{cut_words, row_in, spelled_row, spelled_statuses, statuses_in}
 use Rattle.row_words.specs.Words.{packed, unpacked}
+use Rattle.dataset_meta.specs.Metas.{MetaData}
 use Rattle.group_keys.specs.declared.key_set.KeySet.{KeySet}
 use Rattle.message_guard.specs.declared.keys.TokenKeys.{TokenKeys}
 use Rattle.message_guard.specs.Senders.{SenderState}
 use Rattle.ps_config.specs.Headers.{mode_of}
 use Rattle.ps_config.specs.Rings.{key_set}
 use Rattle.reader_group.specs.Signed.{TakesSignedAlone}
+use Rattle.writer_group.specs.declared.sampled.Sampled.{Sampled}
 use Rattle.writer_group.specs.Parts.{group_at}
 use Rattle.writer_group.specs.Payloads.{payloads_of}
 use Rattle.writer_group.specs.Sealing.{Envelope, Payload, advanced_by, datagram_at, header_at}
-use Rattle.writer_group.specs.Turns.{GroupDeed, envelope_of, frames_in}
+use Rattle.writer_group.specs.Turns.{GroupDeed, envelope_of, frames_in, no_sample}
 use Rattle.writer_group.proofs.DatagramSizes.{length-sent}
 use Rattle.group_laws.specs.Witness.{blob, cut_group, ones, signed_group, slotted_group, three_config, three_key, three_keys}
 use Rattle.session_model.specs.Counts.{longest_datagram, most_taken, most_ticks}
@@ -32,7 +34,8 @@ use Rattle.session_model.specs.Steps.{moment_of}
 use Rattle.session_model.specs.Turns.{deeds_till}
 use Rattle.session_laws.specs.Headline.{InSession}
 use Rattle.session_laws.specs.Renewals.{HasShortTokens, HaveShortTokens}
-use Rattle.session_laws.specs.Witness.{three_plan, three_session}
+use Rattle.session_laws.specs.Sessions.{AreVersions, HasSample, SamplesRise}
+use Rattle.session_laws.specs.Witness.{three_plan, three_rows, three_session}
 use Rattle.session_laws.proofs.HeldRows.Delivering.{pump-of}
 use Rattle.session_laws.proofs.SmallSessions.OneTick.{IsShort, all-sends, short-of}
 use Rattle.turn_laws.specs.Anew.{IsRekeyedBy, keyed_turns_in}
@@ -164,7 +167,7 @@ all-got keys journal sends datagram has signed = Contains-append_right journal (
 keys_behind : List Lived → List TokenKeys
 keys_behind life = ((account_in three_plan life).readings 0).keys
 
-ringed-honest : IsHonestIn three_plan 0 ringed_life
+pub ringed-honest : IsHonestIn three_plan 0 ringed_life
 unfolding keys_behind
 ringed-honest = (
   all-got (keys_behind (tick_behind three_plan 0 true (ones ∷ []) renewed_tick_life)) (account_in three_plan renewed_tick_life).journal (sends renewed_tick_life 0 true),
@@ -191,6 +194,24 @@ ringed-signed signed is hold = record {
   named = three-named;
   lengths = ((λ same. three-fit), tt);
 }
+
+-- ---- its samples
+
+-- behind either tick a sample is that of the small session
+its-sample : (index : ℕ) (meta : MetaData) (sample : Sampled) → HasSample three_plan (steps_in ringed_life) index meta sample → HasSample three_plan three_session index meta sample
+its-sample index meta sample (inl same) = inl same
+its-sample index meta sample (inr (inl same)) = inl same
+its-sample index meta sample (inr (inr none)) = absurd none
+
+no-lower : (index : ℕ) (meta : MetaData) (sample : Sampled) → HasSample three_plan (steps_in renewed_tick_life) index meta sample → sample.version ≤ (slice_index_or (ones ∷ []) index no_sample).version
+no-lower index meta sample (inl same) = let e = ap (λ (s : Sampled). s.version) same.0 in omega (arith, e)
+no-lower index meta sample (inr none) = absurd none
+
+pub ringed-rise : SamplesRise three_plan (steps_in ringed_life)
+ringed-rise = (no-lower, ((λ index meta sample none. absurd none), tt))
+
+pub ringed-versions : AreVersions three_plan three_session three_rows → AreVersions three_plan (steps_in ringed_life) three_rows
+ringed-versions versions = λ index meta sample has. versions index meta sample (its-sample index meta sample has)
 
 -- ---- the ring's token
 
