@@ -127,6 +127,11 @@ static void check_resumed(void) {
     DEMAND(stands(&publisher, LONG_KEYS, 16, 20) && stands(&publisher, SHORT_KEYS, 6, 501));
     turn(&publisher, 400, 2, both);
     DEMAND(is_under(&both[SHORT_GROUP], 6, 502) && is_under(&both[LONG_GROUP], 16, 21));
+    DEMAND(!is_key_frame(both, SHORT_GROUP, 400, 2) && is_key_frame(both, LONG_GROUP, 400, 2));
+    DEMAND(uap_publisher_resume(&publisher, LONG_KEYS, 450, 30) == UAP_OK);
+    turn(&publisher, 500, 3, both);
+    DEMAND(is_under(&both[SHORT_GROUP], 6, 503) && is_under(&both[LONG_GROUP], 16, 31));
+    DEMAND(!is_key_frame(both, SHORT_GROUP, 500, 3) && !is_key_frame(both, LONG_GROUP, 500, 3));
     DEMAND(uap_close(&publisher) == UAP_OK);
 }
 
@@ -222,6 +227,40 @@ static void check_renewed_resumed(const struct renewal *it) {
     DEMAND(is_under(&last[it->group], it->new_token + 1, 1) && takes(&subscriber, it->group, 300, &last[it->group]) && reads(&subscriber, it->group, 3));
     close_sides(&publisher, &subscriber);
     DEMAND(uap_close(&fresh) == UAP_OK);
+}
+
+// In the midst of its life: under a later token the groups of the key group send key frames next, and a reader, which that token cuts, holds
+// the row at once. Under the same token no group does.
+static void check_resumed_frames(const struct renewal *it) {
+    struct uap_handle publisher = UAP_CLOSED_HANDLE, subscriber = UAP_CLOSED_HANDLE;
+    struct datagram both[GROUPS];
+    const struct uap_key_set sets[] = {key_set(it->token, 0, it->digit), key_set(it->new_token, 400, it->new_digit)};
+    const struct {
+        uint64_t resumed;
+        uint32_t token, used;
+        bool is_key[2];
+    } expected[] = {
+        {0, it->token, 0, {true, true}},
+        {0, it->token, 1, {false, false}},
+        {250, it->token, 40, {false, false}},
+        {400, it->new_token, 7, {true, false}},
+        {450, it->new_token, 9, {false, false}},
+    };
+    open_publisher(&publisher, first_keys);
+    DEMAND(uap_subscriber_open(&subscriber, two_keys, sizeof two_keys - 1) == UAP_OK);
+    for (uint32_t i = 0; i < sizeof expected / sizeof *expected; i++) {
+        uint64_t now = 100 * (i + 1), resumed = expected[i].resumed;
+        uint32_t token = expected[i].token, used = expected[i].used;
+        DEMAND(resumed == 0 || uap_publisher_resume_with(&publisher, it->keygroup, resumed, token, used, sets, 2) == UAP_OK);
+        turn(&publisher, now, i, both);
+        DEMAND(is_under(&both[it->group], token, used + 1) && header_of(&both[it->other_group]).number == i + 1);
+        DEMAND(is_key_frame(both, it->group, now, i) == expected[i].is_key[0]);
+        DEMAND(is_key_frame(both, it->other_group, now, i) == expected[i].is_key[1]);
+        DEMAND(takes(&subscriber, it->group, now, &both[it->group]) && reads(&subscriber, it->group, i));
+        DEMAND(takes(&subscriber, it->other_group, now, &both[it->other_group]) && reads(&subscriber, it->other_group, i));
+    }
+    DEMAND(has_waited(&subscriber, it->group, UAP_WHY_NEW_TOKEN) && has_waited(&subscriber, it->other_group, UAP_WHY_START));
+    close_sides(&publisher, &subscriber);
 }
 
 // With a lower token or number, or with key sets that make no ring, nothing changes; a later token passes the numbers over.
@@ -341,6 +380,7 @@ void check_keys(void) {
         check_publisher_renewed(&renewals[i]);
         check_subscriber_renewed(&renewals[i]);
         check_renewed_resumed(&renewals[i]);
+        check_resumed_frames(&renewals[i]);
         check_resumed_with(&renewals[i]);
         check_old_signature(&renewals[i]);
     }

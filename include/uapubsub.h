@@ -295,7 +295,8 @@ static inline uint32_t uap_writer_disable(struct uap_handle *handle, uint8_t gro
 }
 
 /* The next datagram that is due, laid into `buffer`; UAP_NONE where no other is. With UAP_ROOM it has `length` bytes, and waits.
- * Groups have their turns as they are due, each at multiples of its interval. */
+ * Groups have their turns as they are due, each at multiples of its interval. Where a token changes as its key's moment comes, the groups
+ * with these keys send key frames next. */
 static inline uint32_t uap_publisher_next(struct uap_handle *handle, uint64_t now_ms, void *buffer, size_t room, size_t *length) {
     if (handle == NULL || buffer == NULL || length == NULL) return UAP_NULL;
     return uapubsub_publisher_next(handle, now_ms, (uint8_t *)buffer, room, length);
@@ -309,8 +310,9 @@ static inline uint32_t uap_publisher_standing(struct uap_handle *handle, uint8_t
 
 /* A key group goes on behind `used` numbers of the configuration's last key set whose moment has come: what a device calls after a
  * restart, before its first uap_publisher_next, where the key in use stands in the configuration: `used` is of the token that
- * uap_publisher_standing then tells. A ring that uap_publisher_renew gave is dropped. UAP_BAD_KEYS: that token is lower than the one in use,
- * or is that one with a greater number used. */
+ * uap_publisher_standing then tells. A ring that uap_publisher_renew gave is dropped. Where the token in use changes by it, the groups with
+ * these keys send key frames next; under the same token they go on as they were. UAP_BAD_KEYS: that token is lower than the one in use, or
+ * is that one with a greater number used. */
 static inline uint32_t uap_publisher_resume(struct uap_handle *handle, uint8_t keygroup, uint64_t now_ms, uint32_t used) {
     if (handle == NULL) return UAP_NULL;
     return uapubsub_publisher_resume(handle, keygroup, now_ms, used);
@@ -318,7 +320,8 @@ static inline uint32_t uap_publisher_resume(struct uap_handle *handle, uint8_t k
 
 /* The same with other key sets, as `uap_publisher_renew` has them: what a device calls after a restart with the ring that it was renewed
  * with last. `token` and `used` are those that uap_publisher_standing told last, or a greater number. UAP_BAD_KEYS also where the key set of
- * the moment is of an earlier token: what was used under that one isn't known. Under a later token `used` numbers are passed over. */
+ * the moment is of an earlier token: what was used under that one isn't known. Under a later token `used` numbers are passed over, and key
+ * frames follow, as above. */
 static inline uint32_t uap_publisher_resume_with(struct uap_handle *handle, uint8_t keygroup, uint64_t now_ms, uint32_t token, uint32_t used,
                                                  const struct uap_key_set *sets, size_t count) {
     if (handle == NULL || sets == NULL) return UAP_NULL;
@@ -326,7 +329,7 @@ static inline uint32_t uap_publisher_resume_with(struct uap_handle *handle, uint
 }
 
 /* A key group goes on with other key sets, at most 16, in the order of their tokens and moments, the first from 0. The keys in use stay until
- * one with a higher token comes to its moment. */
+ * one with a higher token comes to its moment: then uap_publisher_next begins with key frames. */
 static inline uint32_t uap_publisher_renew(struct uap_handle *handle, uint8_t keygroup, const struct uap_key_set *sets, size_t count) {
     if (handle == NULL || sets == NULL) return UAP_NULL;
     return uapubsub_publisher_renew(handle, keygroup, sets, count);

@@ -1,6 +1,7 @@
 -- Groups whose writers are refreshed.
 use Rattle.std.proofs.Common.{◌≡◌, refl, sym, ap, ◌∙◌, subst, arith, ℕ, zero, suc, ◌+◌, ◌<◌, ◌≤◌, ◌≢◌, ◌⊎◌, inl, inr, true, false, Bool, List, length, get_or, replicate, set}
-use Rattle.std.specs.Prelude.{Option, Some, None, IsTrue, ◌↔◌, ◌==◌}
+use Rattle.std.specs.Prelude.{Option, Some, None, IsTrue, ◌↔◌, ◌==◌, not}
+use Rattle.std.specs.List.{AllZip}
 use Rattle.std.proofs.lemmas.Bool.{cases_lt, false≢true}
 use Rattle.std.proofs.lemmas.Bool.Decides.{eqb_tells}
 use Rattle.std.proofs.lemmas.List.{get_or-set_other, get_or-set_same, get_or_read}
@@ -10,10 +11,12 @@ use Rattle.ps_config.specs.declared.parts.Config.{Config}
 use Rattle.writer_group.specs.Parts.{group_at}
 use Rattle.writer_group.specs.Standing.{IsGroup, IsRefreshed}
 use Rattle.writer_group.specs.declared.group.Group.{Group}
-use Rattle.device_sides.specs.Coming.{AreRefreshed, HasNewToken, IsRefreshedFor, refreshed_first}
-use Rattle.device_sides.specs.Raising.{AreRaised, IsRefreshedIf, is_raised, raised_in}
+use Rattle.device_sides.specs.Coming.{AreRefreshed, HasNewToken, HasOtherToken, IsRefreshedFor, refreshed_first}
+use Rattle.device_sides.specs.Raising.{AreRaised, IsRefreshedBy, IsRefreshedIf, is_raised}
+use Rattle.device_sides.specs.Resuming.{IsRefreshedWith}
 use Rattle.device_sides.specs.Sides.{nth_sender, sender_for}
 use Rattle.device_sides.specs.declared.side.Side.{Side}
+use Rattle.device_sides.proofs.Firsts.{zip-then}
 use Rattle.device_sides.proofs.Sending.{no_sender}
 
 -- one writer more is refreshed
@@ -86,5 +89,69 @@ module _ (config : Config) (now : ℕ) (senders : List SenderState) (was is : Si
 
 -- a group is refreshed for its key group's new token
 pub refreshed-for : (config : Config) (now : ℕ) (senders : List SenderState) (raised : List Bool) → AreRaised now senders raised → (was is : Side)
-    → IsRefreshedIf config (raised_in config raised was) was is → IsRefreshedFor config now senders was is
+    → IsRefreshedBy config raised was is → IsRefreshedFor config now senders was is
 refreshed-for config now senders raised are was is does = raised-at config now senders was is raised (group_at config was.index).keygroup are refl does
+
+-- ---- one key group alone
+
+-- among these truth values that of the one alone may be told
+module _ (config : Config) (keygroup : ℕ) (was is : Side) where
+  own-alone : (changed : Bool) → (group_at config was.index).keygroup ≡ Some keygroup → IsRefreshedIf config changed was is → IsRefreshedWith config keygroup (IsTrue changed) was is
+  own-alone true keyed does = record { refreshed = λ own yes. does; stays = λ none. absurd (none keyed refl) }
+  own-alone false keyed does = record { refreshed = λ own yes. absurd (false≢true yes); stays = λ none. does }
+
+  other-alone : (changed : Bool) → ¬ ((group_at config was.index).keygroup ≡ Some keygroup) → is ≡ was → IsRefreshedWith config keygroup (IsTrue changed) was is
+  other-alone changed other stays = record { refreshed = λ own yes. absurd (other own); stays = λ none. stays }
+
+  keyed-alone : (changed : Bool) (keyed : Option ℕ) → keygroup < 4 → (group_at config was.index).keygroup ≡ keyed
+      → IsRefreshedIf config (is_raised (set (replicate 4 false) keygroup changed) keyed) was is → IsRefreshedWith config keygroup (IsTrue changed) was is
+  keyed-alone changed None low at does = other-alone changed (λ own. none-some keygroup (sym at ∙ own)) does
+  keyed-alone changed (Some k) low at does = by_case (eqb_tells keygroup k)
+    where
+      by_case : ((keygroup == k) ≡ true) × (keygroup ≡ k) ⊎ ((keygroup == k) ≡ false) × (keygroup ≢ k) → IsRefreshedWith config keygroup (IsTrue changed) was is
+      by_case (inl same) =
+          own-alone changed (at ∙ ap (λ (j : ℕ). Some j) (sym same.1))
+          (subst (λ (b : Bool). IsRefreshedIf config b was is)
+          (ap (λ (j : ℕ). get_or (set (replicate 4 false) keygroup changed) j false) (sym same.1) ∙ get_or-set_same (replicate 4 false) keygroup changed false low) does)
+      by_case (inr other) =
+          other-alone changed (λ own. other.1 (same_Some keygroup k (sym own ∙ at)))
+          (subst (λ (b : Bool). IsRefreshedIf config b was is) (get_or-set_other (replicate 4 false) keygroup k changed false (λ e. other.1 (sym e)) ∙ none-raised 4 k) does)
+
+-- a group is refreshed where the one key group's token changed
+pub refreshed-alone : (config : Config) (keygroup : ℕ) (changed : Bool) → keygroup < 4 → (was is : Side) → IsRefreshedBy config (set (replicate 4 false) keygroup changed) was is
+    → IsRefreshedWith config keygroup (IsTrue changed) was is
+refreshed-alone config keygroup changed low was is does = keyed-alone config keygroup was is changed (group_at config was.index).keygroup low refl does
+
+-- the same under a condition that means the same
+refreshed-where : (config : Config) (keygroup : ℕ) (one other : Type 0) → (one → other) → (other → one) → (was is : Side)
+    → IsRefreshedWith config keygroup one was is → IsRefreshedWith config keygroup other was is
+refreshed-where config keygroup one other to from was is does = record {
+  refreshed = λ own yes. does.refreshed own (from yes);
+  stays = λ none. does.stays (λ own yes. none own (to yes));
+}
+
+-- ---- tokens that are compared
+
+module _ (now was : ℕ × ℕ) (old new : SenderState) where
+  told-other : now ≡ (new.keys.token, new.used) → was ≡ (old.keys.token, old.used) → IsTrue (not (now.0 == was.0)) → HasOtherToken old new
+  told-other now_is was_is differ = by_case (eqb_tells now.0 was.0)
+    where
+      by_case : ((now.0 == was.0) ≡ true) × (now.0 ≡ was.0) ⊎ ((now.0 == was.0) ≡ false) × (now.0 ≢ was.0) → HasOtherToken old new
+      by_case (inl same) = absurd (false≢true (sym (ap not same.0) ∙ differ))
+      by_case (inr other) = λ same. other.1 (ap (λ (p : ℕ × ℕ). p.0) now_is ∙ same ∙ sym (ap (λ (p : ℕ × ℕ). p.0) was_is))
+
+  other-told : now ≡ (new.keys.token, new.used) → was ≡ (old.keys.token, old.used) → HasOtherToken old new → IsTrue (not (now.0 == was.0))
+  other-told now_is was_is other = by_case (eqb_tells now.0 was.0)
+    where
+      by_case : ((now.0 == was.0) ≡ true) × (now.0 ≡ was.0) ⊎ ((now.0 == was.0) ≡ false) × (now.0 ≢ was.0) → IsTrue (not (now.0 == was.0))
+      by_case (inl same) = absurd (other (sym (ap (λ (p : ℕ × ℕ). p.0) now_is) ∙ same.1 ∙ ap (λ (p : ℕ × ℕ). p.0) was_is))
+      by_case (inr other_token) = ap not other_token.0
+
+-- groups that are refreshed where the first of two standings has another token are refreshed where the sender has
+pub refreshed-told : (config : Config) (keygroup : ℕ) (now was : ℕ × ℕ) (old new : SenderState) → now ≡ (new.keys.token, new.used) → was ≡ (old.keys.token, old.used)
+    → (before behind : List Side) → AllZip (IsRefreshedWith config keygroup (IsTrue (not (now.0 == was.0)))) before behind
+    → AllZip (IsRefreshedWith config keygroup (HasOtherToken old new)) before behind
+refreshed-told config keygroup now was old new now_is was_is before behind zip =
+    zip-then (IsRefreshedWith config keygroup (IsTrue (not (now.0 == was.0)))) (IsRefreshedWith config keygroup (HasOtherToken old new))
+    (refreshed-where config keygroup (IsTrue (not (now.0 == was.0))) (HasOtherToken old new) (told-other now was old new now_is was_is) (other-told now was old new now_is was_is))
+    before behind zip

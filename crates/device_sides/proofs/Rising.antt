@@ -17,7 +17,8 @@ use Rattle.writer_group.specs.Sealing.{advanced_by}
 use Rattle.writer_group.proofs.Joining.{advanced-used}
 use Rattle.device_sides.specs.Calls.{AreCalled, Call, Came, FallBackNever, GiveOthers, IsCalled, Other, Renewed, Resumed}
 use Rattle.device_sides.specs.Coming.{Comes, ComesTo, turned_to}
-use Rattle.device_sides.specs.Sides.{HasNumbered, HasRenewed, IsBecome, IsBehind, IsNoLess, numbered}
+use Rattle.device_sides.specs.Resuming.{IsBehind}
+use Rattle.device_sides.specs.Sides.{HasNumbered, HasRenewed, IsBecome, IsNoLess, numbered}
 use Rattle.device_sides.specs.declared.asked.Next.{Next}
 use Rattle.device_sides.specs.declared.asked.Next.TheVariants.{Datagram, Nothing, Spent}
 use Rattle.device_sides.specs.declared.publisher.Publisher.{Publisher}

@@ -6,7 +6,8 @@ use Rattle.message_guard.specs.Senders.{SenderState, turned}
 use Rattle.device_sides.specs.declared.asked.Next.{Next}
 use Rattle.device_sides.specs.declared.publisher.Publisher.{Publisher}
 use Rattle.device_sides.specs.Coming.{ComesTo}
-use Rattle.device_sides.specs.Sides.{HasRenewed, IsBehind, IsNoLess}
+use Rattle.device_sides.specs.Resuming.{IsBehind}
+use Rattle.device_sides.specs.Sides.{HasRenewed, IsNoLess}
 
 -- it comes to a moment, a key group is renewed, or goes on behind so many numbers; or all senders stay
 pub data Call : Type 0 where

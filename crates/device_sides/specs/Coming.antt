@@ -24,9 +24,13 @@ use Rattle.device_sides.specs.Sides.{HasNumbered, HasTurned, MayNotTurn, sender_
 abbrev pub turned_to : ℕ → List SenderState → List SenderState
 turned_to now senders = map (λ sender. turned sender now) senders
 
+-- the token in use is another than before
+abbrev pub HasOtherToken : SenderState → SenderState → Type 0
+HasOtherToken old new = new.keys.token ≢ old.keys.token
+
 -- the sender has another token at the moment
 abbrev pub HasNewToken : ℕ → SenderState → Type 0
-HasNewToken now sender = (turned sender now).keys.token ≢ sender.keys.token
+HasNewToken now sender = HasOtherToken sender (turned sender now)
 
 -- the first writers, so many, are refreshed
 abbrev pub refreshed_first : ℕ → List GroupDeed → List GroupDeed

@@ -3,4 +3,5 @@ pub mod Coming
 pub mod Looking
 pub mod Raising
 pub mod Readings
+pub mod Resuming
 pub mod Sides

@@ -23,3 +23,7 @@ raised_in config raised side = is_raised raised (group_at config side.index).key
 abbrev pub IsRefreshedIf : Config → Bool → Side → Side → Type 0
 IsRefreshedIf config true old new = AreRefreshed (all_writers config old) old new
 IsRefreshedIf config false old new = new ≡ old
+
+-- the same by these truth values
+abbrev pub IsRefreshedBy : Config → List Bool → Side → Side → Type 0
+IsRefreshedBy config raised old new = IsRefreshedIf config (raised_in config raised old) old new

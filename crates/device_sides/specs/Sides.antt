@@ -252,43 +252,6 @@ pub record IsResumed (part : KeyGroupPart) (sets : List KeySet) (now used : ℕ)
 abbrev pub IsOpeningSender : KeyGroupPart → SenderState → Type 0
 IsOpeningSender part sender = IsResumed part (configured_sets part) 0 part.used sender
 
--- the sender of the key group goes on so with these key sets, no number comes twice, and nothing else changed
-pub record IsBehind (keygroup now used : ℕ) (sets : List KeySet) (old new : Publisher) : Type 0 where
-  pub within : keygroup < length old.senders.items
-  pub there : keygroup < length old.config.keygroup
-  pub is_resumed : HoldsAt (λ part. HoldsAt (IsResumed part sets now used) new.senders.items keygroup) old.config.keygroup keygroup
-  pub no_lower : HoldsAt (λ was. HoldsAt (IsNoLess was) new.senders.items keygroup) old.senders.items keygroup
-  pub others : HoldsAt (λ is. new.senders.items ≡ slice_set old.senders.items keygroup is) new.senders.items keygroup
-  pub rest : new ≡ record old { senders = new.senders }
-
--- the same with the key sets of the configuration
-abbrev pub IsBehindConfigured : ℕ → ℕ → ℕ → Publisher → Publisher → Type 0
-IsBehindConfigured keygroup now used old new =
-    HoldsAt (λ part. IsBehind keygroup now used (configured_sets part) old new) old.config.keygroup keygroup
-
--- the last of these key sets whose moment has come at this moment is of an earlier token than this
-pub record IsEarlier (now token : ℕ) (sets : List KeySet) : Type 0 where
-  pub set : KeySet
-  pub is : current sets now ≡ Some set
-  pub earlier : set.token < token
-
--- with the sender of this key group that goes on so, numbers that this one used would come again
-pub record WouldRepeat (part : KeyGroupPart) (sets : List KeySet) (now used : ℕ) (sender : SenderState) : Type 0 where
-  pub resumed : SenderState
-  pub is : IsResumed part sets now used resumed
-  pub repeats : ¬ IsNoLess sender resumed
-
--- where there is a key group with this index, numbers of its sender would come again with these key sets
-abbrev pub MayNotResume : ℕ → ℕ → ℕ → List KeySet → Publisher → Type 0
-MayNotResume keygroup now used sets publisher =
-    keygroup < length publisher.senders.items → keygroup < length publisher.config.keygroup
-    → HoldsAt (λ part. HoldsAt (WouldRepeat part sets now used) publisher.senders.items keygroup) publisher.config.keygroup keygroup
-
--- the same with the key sets of the configuration
-abbrev pub MayNotResumeConfigured : ℕ → ℕ → ℕ → Publisher → Type 0
-MayNotResumeConfigured keygroup now used publisher =
-    HoldsAt (λ part. MayNotResume keygroup now used (configured_sets part) publisher) publisher.config.keygroup keygroup
-
 -- ---- the lengths of keys
 
 -- whether the key group with this index has keys of AES-256

@@ -3,7 +3,6 @@ ghost use Rattle.std.specs.Prelude.{◌≡◌, ◌≤◌, IfNone, IfOk, IfSome, 
 ghost use Rattle.std.specs.List.{AllZip};
 ghost use Rattle.group_keys.specs.Ring.{key_sets};
 ghost use Rattle.message_guard.specs.Senders.{IsSender};
-ghost use Rattle.ps_config.specs.Configs.{is_long};
 ghost use Rattle.ps_config.specs.Sound.{IsKeyGroup};
 ghost use Rattle.writer_group.specs.Standing.{AreRowsOf, IsGood};
 ghost use Rattle.device_sides.specs.Sides.{AreOpeningListenings, AreOpeningSides, HasLongKeys, IsKeyedBy, IsListening, IsOpeningRow, IsOpeningSender, IsResumed, IsSide, IsUnkeyed};
@@ -96,14 +95,7 @@ pub fn has_long_keys(config: &Config, keygroup: u8) -> Option<bool>
     if index >= keygroups.len() {
         return None;
     }
-    Some(is_long(keygroups[index].policy))
-}
-
-/// Whether keys of this policy are those of AES-256.
-fn is_long(policy: Policy) -> bool
-    ensures { result ≡ is_long policy }
-{
-    matches!(policy, Policy::Aes256)
+    Some(matches!(keygroups[index].policy, Policy::Aes256))
 }
 
 /// The key group of the read group with this index. None where there is no such read group, or where it isn't secured.

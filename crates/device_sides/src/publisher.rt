@@ -7,14 +7,15 @@ ghost use Rattle.ps_config.specs.Reading.{configuration, IsEnd};
 ghost use Rattle.writer_group.specs.Standing.{IsGood, IsReserved, datagrams_in};
 ghost use Rattle.device_sides.specs.Coming.{Comes, HasCome, IsWaiting};
 ghost use Rattle.device_sides.specs.Looking.{Counts, HasLooked};
-ghost use Rattle.device_sides.specs.Sides.{AreOpeningSides, FitsKeyGroup, HasField, HasLongKeys, HasNoField, HasNoWriter, HasRenewed, HasSet, HasSetStatus, HasSetWord, HasWriterSwitched, IsBehind, IsBehindConfigured, IsEarlier, IsMisfit, IsNoLower, IsOpeningRow, IsOpeningSender, IsPublisher, IsStatusMisfit, IsWordMisfit, MayNotResume, MayNotResumeConfigured, StandsAt};
+ghost use Rattle.device_sides.specs.Resuming.{IsBehind, IsBehindConfigured, IsEarlier, MayNotResume, MayNotResumeConfigured};
+ghost use Rattle.device_sides.specs.Sides.{AreOpeningSides, FitsKeyGroup, HasField, HasLongKeys, HasNoField, HasNoWriter, HasRenewed, HasSet, HasSetStatus, HasSetWord, HasWriterSwitched, IsMisfit, IsNoLower, IsOpeningRow, IsOpeningSender, IsPublisher, IsStatusMisfit, IsWordMisfit, StandsAt};
 
 use crate::asked::Next;
 use crate::looking::{Looked, is_held, look};
 use crate::making::{has_long_keys, rows_of, sender_with, senders_of, sides_of};
 use crate::rows::{set_in, set_status_in, set_word_in};
 use crate::side::Side;
-use crate::sides::turn_senders;
+use crate::sides::{refresh_with, turn_senders};
 use crate::words::has_field_at;
 use group_keys::Ring;
 use message_guard::Sender;
@@ -119,8 +120,9 @@ impl Publisher {
     }
 
     /// What the publisher has at `now`, in milliseconds, which must not fall. Where no datagram waits, the senders turn to `now`, and
-    /// groups that are due have their turns, in order, until one makes a datagram. A group's turn counts as that of the last multiple
-    /// of its interval, so that it doesn't drift.
+    /// where a token changes the groups that are secured with its keys send key frames next. Then groups that are due have their turns,
+    /// in order, until one makes a datagram. A group's turn counts as that of the last multiple of its interval, so that it doesn't
+    /// drift.
     pub fn come_to(&mut self, now: u64) -> Next
         requires { IsPublisher self.old }
         ensures publisher { IsPublisher self.new }
@@ -195,7 +197,8 @@ impl Publisher {
     }
 
     /// The key group with this index goes on with another ring (`Sender::renew`), whose keys have to be as long as the key group's:
-    /// `has_long_keys` tells how long these are. False, and nothing changes, where there is no such key group.
+    /// `has_long_keys` tells how long these are. The token in use stays until `come_to` finds a higher one, and key frames follow then.
+    /// False, and nothing changes, where there is no such key group.
     pub fn renew(&mut self, keygroup: u8, ring: Ring) -> bool
         requires publisher { IsPublisher self.old }
         requires long { FitsKeyGroup self.old.config keygroup (is_long ring) }
@@ -221,8 +224,9 @@ impl Publisher {
     }
 
     /// The key group with this index goes on behind `used` numbers of the configuration's last key set whose moment has come at `now`,
-    /// in milliseconds (`Sender::resume`). False, and nothing changes, where there is no such key group, or where a number would come
-    /// twice: the key set's token is lower than the one in use, or is that one with a greater number used.
+    /// in milliseconds (`Sender::resume`). Where that key set's token is later than the one in use, the groups that are secured with its
+    /// keys send key frames next; under the same token they go on as they were. False, and nothing changes, where there is no such key
+    /// group, or where a number would come twice: the token is lower than the one in use, or is that one with a greater number used.
     pub fn resume(&mut self, keygroup: u8, now: u64, used: u32) -> bool
         requires { IsPublisher self.old }
         ensures publisher { IsPublisher self.new }
@@ -241,7 +245,8 @@ impl Publisher {
 
     /// The same with the key sets of this ring, as `renew` gave them before a restart and with keys as long as it asks for: behind the
     /// token and the number that `standing` told last. False also where the last key set whose moment has come is of an earlier token:
-    /// the numbers that were used under it aren't known. Under a later token so many numbers are passed over.
+    /// the numbers that were used under it aren't known. Under a later token so many numbers are passed over. Key frames follow where
+    /// the token in use changes, as `resume` has it.
     pub fn resume_with(&mut self, keygroup: u8, now: u64, token: u32, used: u32, ring: Ring) -> bool
         requires publisher { IsPublisher self.old }
         requires long { FitsKeyGroup self.old.config keygroup (is_long ring) }
@@ -260,7 +265,8 @@ impl Publisher {
         self.go_on(keygroup, now, used, ring)
     }
 
-    /// The sender of the key group goes on behind `used` numbers of this ring, unless a number would come twice.
+    /// The sender of the key group goes on behind `used` numbers of this ring, unless a number would come twice. Where its token changes
+    /// its groups send key frames next.
     fn go_on(&mut self, keygroup: u8, now: u64, used: u32, ring: Ring) -> bool
         requires { IsPublisher self.old }
         ensures publisher { IsPublisher self.new }
@@ -278,10 +284,12 @@ impl Publisher {
             return false;
         }
         let sender = sender_with(&keygroups[index], ring, now, used);
-        if !is_behind(sender.standing(), self.senders[index].standing()) {
+        let (new, old) = (sender.standing(), self.senders[index].standing());
+        if !is_behind(new, old) {
             return false;
         }
         self.senders[index] = sender;
+        refresh_with(&self.config, &mut self.sides, keygroup, new.0 != old.0);
         true
     }
 

@@ -1,9 +1,10 @@
 //! The groups of a publisher, and their senders.
-ghost use Rattle.std.specs.Prelude.{◌≡◌, ◌≤◌, ◌↔◌, All, IsTrue, length};
+ghost use Rattle.std.specs.Prelude.{◌≡◌, ◌<◌, ◌≤◌, ◌↔◌, All, IsTrue, length};
 ghost use Rattle.std.specs.List.{AllZip};
 ghost use Rattle.message_guard.specs.Senders.{IsSender, turned};
 ghost use Rattle.device_sides.specs.Coming.{HasNewToken, IsRefreshedFor, turned_to};
-ghost use Rattle.device_sides.specs.Raising.{AreRaised, IsRefreshedIf, is_raised, raised_in};
+ghost use Rattle.device_sides.specs.Raising.{AreRaised, IsRefreshedBy, is_raised};
+ghost use Rattle.device_sides.specs.Resuming.{IsRefreshedWith};
 ghost use Rattle.device_sides.specs.Sides.{IsSide};
 
 use crate::side::Side;
@@ -24,8 +25,30 @@ pub fn turn_senders(config: &Config, sides: &mut [Side], senders: &mut [Sender],
     ensures refreshed { AllZip (IsRefreshedFor config.now now senders.old) sides.old sides.new }
 {
     let raised = turn_each(senders, now);
+    refresh_raised(config, sides, &raised);
+}
+
+/// Where the token of this key group changed, the groups that are secured with its keys send key frames next.
+pub fn refresh_with(config: &Config, sides: &mut [Side], keygroup: u8, changed: bool)
+    requires few { keygroup < MOST_KEYGROUPS }
+    requires sides { All (IsSide config.now) sides.old }
+    ensures sides { All (IsSide config.now) sides.new }
+    ensures refreshed { AllZip (IsRefreshedWith config.now keygroup (IsTrue changed))
+        sides.old sides.new }
+{
+    let mut raised = [false; MOST_KEYGROUPS];
+    raised[usize::from(keygroup)] = changed;
+    refresh_raised(config, sides, &raised);
+}
+
+/// The groups that are secured with the keys of key groups whose tokens changed send key frames next.
+fn refresh_raised(config: &Config, sides: &mut [Side], raised: &[bool; 4])
+    requires { All (IsSide config.now) sides.old }
+    ensures sides { All (IsSide config.now) sides.new }
+    ensures refreshed { AllZip (IsRefreshedBy config.now raised.now) sides.old sides.new }
+{
     for g in 0..sides.len() {
-        refresh_if(config, &mut sides[g], &raised);
+        refresh_if(config, &mut sides[g], raised);
     }
 }
 
@@ -58,8 +81,7 @@ fn turn_one(sender: &mut Sender, now: u64) -> bool
 fn refresh_if(config: &Config, side: &mut Side, raised: &[bool; 4])
     requires { IsSide config.now side.old }
     ensures side { IsSide config.now side.new }
-    ensures refreshed { IsRefreshedIf config.now (raised_in config.now raised.now side.old)
-        side.old side.new }
+    ensures refreshed { IsRefreshedBy config.now raised.now side.old side.new }
 {
     if !is_raised(side.keygroup(config), raised) {
         return;

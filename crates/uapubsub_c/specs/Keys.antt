@@ -5,7 +5,8 @@ use Rattle.group_keys.specs.KeySets.{encrypting_length}
 use Rattle.group_keys.specs.declared.key_set.KeySet.{KeySet}
 use Rattle.message_guard.specs.Protection.{keys_in}
 use Rattle.device_sides.specs.Readings.{HasKeysRenewed}
-use Rattle.device_sides.specs.Sides.{HasLongKeys, HasRenewed, IsBehind, IsEarlier, MayNotResume, MayNotResumeConfigured, ReadsLongKeys, ReadsNoKeys}
+use Rattle.device_sides.specs.Resuming.{IsBehind, IsEarlier, MayNotResume, MayNotResumeConfigured}
+use Rattle.device_sides.specs.Sides.{HasLongKeys, HasRenewed, ReadsLongKeys, ReadsNoKeys}
 use Rattle.device_sides.specs.declared.publisher.Publisher.{Publisher}
 use Rattle.device_sides.specs.declared.subscriber.Subscriber.{Subscriber}
 use Rattle.uapubsub_c.specs.declared.keys.KeySetWords.{KeySetWords}

@@ -1,7 +1,7 @@
 //! The publisher's calls, but those that set fields.
 ghost use Rattle.std.specs.Prelude.{◌≡◌, ◌≢◌, ◌<◌, [], ◌∷◌, length};
 ghost use Rattle.device_sides.specs.Coming.{ComesTo};
-ghost use Rattle.device_sides.specs.Sides.{IsBehindConfigured};
+ghost use Rattle.device_sides.specs.Resuming.{IsBehindConfigured};
 ghost use Rattle.uapubsub_c.specs.Getting.{IsSubscriberSide, PublisherIs, PublisherMoves};
 ghost use Rattle.uapubsub_c.specs.Handles.{HandsOver, IsOneOf, IsReady, IsRefused, IsSound, Leaves, OpensPublisher, StandsIn, Stays, Tells};
 ghost use Rattle.uapubsub_c.specs.Keys.{HasNoKeyGroup, HasRenewedTo, IsBehindWith, MakesNoRing, MayNotResumeWith, RepeatsConfigured};
@@ -167,8 +167,9 @@ fn standing_of(kept: &Kept, keygroup: u8, token: &mut u32, used: &mut u32) -> u3
 }
 
 /// The key group with this index goes on behind `used` numbers of the configuration's last key set whose moment has come at `now`, in
-/// milliseconds. BAD_KEYS, and nothing changes, where a number would come twice: its token is lower than the one in use, or is that
-/// one with a greater number used.
+/// milliseconds. Where its token is later than the one in use, the groups that are secured with these keys send key frames next; under
+/// the same token they go on as they were. BAD_KEYS, and nothing changes, where a number would come twice: the token is lower than the
+/// one in use, or is that one with a greater number used.
 #[unsafe(no_mangle)]
 pub extern "C" fn uapubsub_publisher_resume(
     alloc: Global,
@@ -225,8 +226,8 @@ fn resume_in(kept: &mut Kept, keygroup: u8, now: u64, used: u32) -> u32
 }
 
 /// The same with these key sets, in the order of their tokens and moments, at most 16: as `uapubsub_publisher_renew` gave them before a
-/// restart. Token and number are those that `uapubsub_publisher_standing` told last. BAD_KEYS also where the key sets make no ring, or
-/// that of the moment is of an earlier token.
+/// restart. Token and number are those that `uapubsub_publisher_standing` told last. Key frames follow where the token in use changes.
+/// BAD_KEYS also where the key sets make no ring, or that of the moment is of an earlier token.
 #[unsafe(no_mangle)]
 pub extern "C" fn uapubsub_publisher_resume_with(
     alloc: Global,
@@ -296,7 +297,7 @@ fn resume_with_in(
 }
 
 /// The key group with this index goes on with other key sets, in the order of their tokens and moments, at most 16. The keys in use
-/// stay until one with a higher token comes to its moment.
+/// stay until one with a higher token comes to its moment: key frames follow then.
 #[unsafe(no_mangle)]
 pub extern "C" fn uapubsub_publisher_renew(
     alloc: Global,

@@ -1,6 +1,7 @@
 use Rattle.std.proofs.Common.{◌⊎◌, List, inl, inr, subst, sym}
 use Rattle.group_keys.specs.declared.key_set.KeySet.{KeySet}
-use Rattle.device_sides.specs.Sides.{HasLongKeys, IsBehind, IsEarlier, MayNotResume}
+use Rattle.device_sides.specs.Resuming.{IsBehind, IsEarlier, MayNotResume}
+use Rattle.device_sides.specs.Sides.{HasLongKeys}
 use Rattle.uapubsub_c.specs.Getting.{PublisherIs, PublisherMoves}
 use Rattle.uapubsub_c.specs.Keys.{HasNoKeyGroup, IsBehindWith, MayNotResumeWith}
 use Rattle.uapubsub_c.specs.declared.kept.Kept.{Kept}

@@ -1,6 +1,6 @@
 use Rattle.std.proofs.Common.{subst}
 use Rattle.uapubsub_c.specs.declared.kept.Kept.{Kept}
-use Rattle.device_sides.specs.Sides.{IsBehindConfigured}
+use Rattle.device_sides.specs.Resuming.{IsBehindConfigured}
 use Rattle.uapubsub_c.specs.Getting.{IsSubscriberSide, PublisherIs, PublisherMoves}
 use Rattle.uapubsub_c.specs.Keys.{HasNoKeyGroup, RepeatsConfigured}
 use Rattle.uapubsub_c.proofs.publishing.uapubsub_publisher_resume.Goals as goal

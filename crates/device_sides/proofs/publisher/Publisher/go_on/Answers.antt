@@ -1,14 +1,26 @@
 use Rattle.std.proofs.Common.{◌≡◌, ℕ, ◌<◌, List, length, refl, set, sym, subst, ap, ◌∙◌, arith}
-use Rattle.std.specs.List.{HoldsAt}
+use Rattle.std.specs.Prelude.{All, IsTrue, not, ◌==◌}
+use Rattle.std.specs.List.{AllZip, HoldsAt}
+use Rattle.std.specs.Vec.{with_items}
 use Rattle.std.proofs.lemmas.Bool.{false≢true}
-use Rattle.std.proofs.lemmas.List.{length-set}
+use Rattle.std.proofs.lemmas.List.{length-set, with_items_is}
 use Rattle.std.proofs.lemmas.List.Elements.{All-set}
 use Rattle.group_keys.specs.Ring.{key_sets}
 use Rattle.message_guard.specs.Senders.{IsSender, SenderState}
 use Rattle.ps_config.specs.declared.parts.KeyGroupPart.{KeyGroupPart}
-use Rattle.device_sides.specs.Sides.{IsNoLess, IsNoLower, IsResumed, WouldRepeat}
+use Rattle.device_sides.specs.Coming.{HasOtherToken}
+use Rattle.device_sides.specs.Resuming.{IsRefreshedWith, WouldRepeat}
+use Rattle.device_sides.specs.Sides.{IsNoLess, IsNoLower, IsResumed, IsSide}
+use Rattle.device_sides.specs.declared.side.Side.{Side}
 use Rattle.device_sides.proofs.Places.{holds-at, put-at}
+use Rattle.device_sides.proofs.Refreshing.{refreshed-told}
 use Rattle.device_sides.proofs.publisher.Publisher.go_on.Goals as goal
+use Rattle.device_sides.proofs.publisher.Publisher.go_on.Goals.{After-refresh_with}
+
+sides-kept : (c : After-refresh_with) → (with_items c.args.self.now.sides c.refresh_with.new.sides).items ≡ c.refresh_with.new.sides
+sides-kept c =
+    with_items_is c.args.self.now.sides c.refresh_with.new.sides
+    (omega (arith, c.refresh_with.auto.sides, c.args.self.now.sides.ok.0, ap (λ (l : List Side). length l) c.deref_mut.ensures.value))
 
 pub returns-then-index-len-clause-refused : goal.returns-then-index-len-clause-refused
 returns-then-index-len-clause-refused c = λ within there. absurd (omega (arith, within, c.if-index-len.true, c.len.ensures, c.args.self.now.senders.ok.0, c.from-index.ensures))
@@ -31,8 +43,8 @@ returns-then-not-is_behind-clause-refused c =
       resumed = resumed;
       is = c.sender_with-sender.ensures.resumed;
       repeats = λ no_lower. false≢true (c.if-not-is_behind.ensures.1
-          (subst (λ (standing : ℕ × ℕ). IsNoLower standing c.standing.result) (sym c.standing-2.ensures)
-          (subst (λ (standing : ℕ × ℕ). IsNoLower (sender.keys.token, sender.used) standing) (sym c.standing.ensures) no_lower)));
+          (subst (λ (standing : ℕ × ℕ). IsNoLower standing c.standing-new.result) (sym c.standing-old.ensures)
+          (subst (λ (standing : ℕ × ℕ). IsNoLower (sender.keys.token, sender.used) standing) (sym c.standing-new.ensures) no_lower)));
     } in
     λ within there.
     holds-at (λ (p : KeyGroupPart). HoldsAt (WouldRepeat p sets c.args.now c.args.used) senders c.args.keygroup) keygroups c.args.self.now.config.keygroup index c.args.keygroup part
@@ -52,8 +64,17 @@ returns-clause-behind c =
     let low : index < length senders = omega (arith, c.if-index-len.false, c.len.ensures, c.args.self.now.senders.ok.0) in
     let there : index < length keygroups = omega (arith, c.if-index-keygroups.false) in
     let no_lower : IsNoLess sender resumed =
-    subst (λ (standing : ℕ × ℕ). IsNoLower standing (resumed.keys.token, resumed.used)) c.standing-2.ensures
-    (subst (λ (standing : ℕ × ℕ). IsNoLower c.standing-2.result standing) c.standing.ensures (c.if-not-is_behind.ensures.0 refl)) in
+    subst (λ (standing : ℕ × ℕ). IsNoLower standing (resumed.keys.token, resumed.used)) c.standing-old.ensures
+    (subst (λ (standing : ℕ × ℕ). IsNoLower c.standing-old.result standing) c.standing-new.ensures (c.if-not-is_behind.ensures.0 refl)) in
+    let config = c.args.self.now.config in
+    let sides = c.args.self.now.sides.items in
+    let left = (with_items c.args.self.now.sides c.refresh_with.new.sides).items in
+    let refreshed : AllZip (IsRefreshedWith config c.args.keygroup (HasOtherToken sender resumed)) sides left =
+    refreshed-told config c.args.keygroup c.standing-new.result c.standing-old.result sender resumed c.standing-new.ensures c.standing-old.ensures sides left
+    (subst (λ (l : List Side). AllZip (IsRefreshedWith config c.args.keygroup (IsTrue (not (c.standing-new.result.0 == c.standing-old.result.0)))) sides l)
+    (sym (sides-kept (goal.at.returns-clause-behind c).After-refresh_with))
+    (subst (λ (l : List Side). AllZip (IsRefreshedWith config c.args.keygroup (IsTrue (not (c.standing-new.result.0 == c.standing-old.result.0)))) l c.refresh_with.new.sides)
+    c.deref_mut.ensures.value c.refresh_with.ensures.refreshed)) in
     record {
       within = omega (arith, low, at);
       there = omega (arith, there, at, ap (λ (l : List KeyGroupPart). length l) c.as_slice-keygroups.ensures);
@@ -64,6 +85,9 @@ returns-clause-behind c =
           senders senders index c.args.keygroup sender refl at low c.index.ensures
           (put-at (IsNoLess sender) senders index c.args.keygroup resumed at low no_lower);
       others = put-at (λ (is : SenderState). set senders index resumed ≡ set senders c.args.keygroup is) senders index c.args.keygroup resumed at low (ap (λ (k : ℕ). set senders k resumed) at);
+      refreshed = holds-at (λ (was : SenderState). HoldsAt (λ (is : SenderState). AllZip (IsRefreshedWith config c.args.keygroup (HasOtherToken was is)) sides left) (set senders index resumed)
+          c.args.keygroup) senders senders index c.args.keygroup sender refl at low c.index.ensures
+          (put-at (λ (is : SenderState). AllZip (IsRefreshedWith config c.args.keygroup (HasOtherToken sender is)) sides left) senders index c.args.keygroup resumed at low refreshed);
       rest = refl;
     }
 
@@ -76,7 +100,7 @@ returns-clause-publisher c =
       rows_count = r.rows_count;
       senders_are = All-set IsSender c.args.self.now.senders.items c.from-index.result c.sender_with-sender.result c.sender_with-sender.ensures.sender r.senders_are;
       senders_count = length-set c.args.self.now.senders.items c.from-index.result c.sender_with-sender.result ∙ r.senders_count;
-      sides_are = r.sides_are;
+      sides_are = subst (λ (l : List Side). All (IsSide c.args.self.now.config) l) (sym (sides-kept (goal.at.returns-clause-publisher c).After-refresh_with)) c.refresh_with.ensures.sides;
       reserved = r.reserved;
       made_is = r.made_is;
       handed_is = r.handed_is;

@@ -2,7 +2,8 @@ use Rattle.std.proofs.Common.{◌<◌, List, length, subst, ap, arith}
 use Rattle.std.proofs.lemmas.Bool.{OnFalse_at, OnFalse_from, OnTrue_at, OnTrue_from}
 use Rattle.group_keys.specs.declared.key_set.KeySet.{KeySet}
 use Rattle.ps_config.specs.declared.parts.KeyGroupPart.{KeyGroupPart}
-use Rattle.device_sides.specs.Sides.{IsBehind, IsBehindConfigured, MayNotResume, MayNotResumeConfigured, configured_sets}
+use Rattle.device_sides.specs.Resuming.{IsBehind, IsBehindConfigured, MayNotResume, MayNotResumeConfigured}
+use Rattle.device_sides.specs.Sides.{configured_sets}
 use Rattle.device_sides.proofs.Places.{holds-at}
 use Rattle.device_sides.proofs.publisher.Publisher.resume.Goals as goal
 

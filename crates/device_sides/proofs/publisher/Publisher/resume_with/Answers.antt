@@ -3,7 +3,7 @@ use Rattle.std.proofs.lemmas.Bool.{OnFalse_at, OnFalse_from, OnTrue_from}
 use Rattle.std.proofs.lemmas.Option.{same_Some}
 use Rattle.group_keys.specs.Ring.{key_sets}
 use Rattle.group_keys.specs.declared.key_set.KeySet.{KeySet}
-use Rattle.device_sides.specs.Sides.{IsEarlier, MayNotResume}
+use Rattle.device_sides.specs.Resuming.{IsEarlier, MayNotResume}
 use Rattle.device_sides.proofs.publisher.Publisher.resume_with.Goals as goal
 
 pub returns-then-at-token-clause-refused : goal.returns-then-at-token-clause-refused
