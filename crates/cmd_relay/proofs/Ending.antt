@@ -10,6 +10,7 @@ use Rattle.ps_script.specs.declared.fault.ScriptFault.{ScriptFault}
 use Rattle.ps_script.specs.declared.script.Script.{Script}
 use Rattle.ps_script.specs.Scripts.{script as script_in}
 use Rattle.ps_script.specs.Values.{ValueReader}
+use Rattle.session_model.specs.Counts.{session_nothings}
 use Rattle.script_player.specs.declared.play.PlayEnd.{PlayEnd}
 use Rattle.script_player.specs.declared.play.PlayEnd.TheVariants as ends
 use Rattle.script_player.specs.Plays.{opening_of}
@@ -24,13 +25,14 @@ use Rattle.commands.specs.Statuses.{IsDone, IsConfigRefused, IsOutOfMemory, IsSc
 use Rattle.commands.proofs.Told.{judged_told, script_told, long_is, long_judged, long_short}
 use Rattle.commands.specs.Endings.{status_of}
 use Rattle.commands.specs.Sessions.{NamesLong}
-use Rattle.commands.specs.Links.{IsOpenedOnce, IsQuietOrOpened, TellsToTheEnd}
+use Rattle.commands.specs.Links.{IsQuietOrOpened}
 use Rattle.commands.proofs.Ended.{written_late}
 use Rattle.commands.proofs.Ends.{stays-telling, stays-unopened}
 use Rattle.commands.proofs.ToldSessions.{short}
 use Rattle.cmd_relay.specs.declared.command.Accepted.{Accepted}
 use Rattle.cmd_relay.specs.Ends.{Accepts, AreConfigured, AreRefused, AreTold, AreToldConfigs, EndsAccepting, EndsSecond, Names, Reads, RelayEnds, Says, UsesLinks, Writes}
-use Rattle.cmd_relay.specs.Links.{LeavesUnopened, OpensSo, StaysClosed, opening_again}
+use Rattle.cmd_relay.specs.Links.{LeavesUnopened, OpensBoth, StaysClosed, opening_again}
+use Rattle.cmd_relay.specs.Relaying.{IsRelayOf}
 use Rattle.cmd_relay.specs.Sources.{AreSourced, IsUnsourced}
 
 -- ---- results
@@ -384,58 +386,57 @@ ends_unaccepted status names old new lab wire ends rose keeps same =
     })
     (record { later = keeps.1; rose = rose }) (record { later = omega (arith, same); rose = λ is. absurd (early.written is) }) keeps.0
 
--- what wasn't performed says nothing of its openings but that they are none or one
-once-unperformed : (end : PlayEnd) (before after : Wire) → IsOpenedOnce ⊥ before after → IsOpenedOnce (IsPerformed (status_of end)) before after
-once-unperformed ends.Memory before after once = record { making = once.making; at_most_once = once.at_most_once; once = λ is. absurd (elim is [ inl e ↦ omega (arith, e) | inr e ↦ omega (arith, e) ]) }
-once-unperformed ends.Unopened before after once = record { making = once.making; at_most_once = once.at_most_once; once = λ is. absurd (elim is [ inl e ↦ omega (arith, e) | inr e ↦ omega (arith, e) ]) }
+-- neither end comes behind a session that was performed
+unperformed : (end : PlayEnd) → IsPerformed (status_of end) → ⊥
+unperformed ends.Memory is = elim is [ inl e ↦ omega (arith, e) | inr e ↦ omega (arith, e) ]
+unperformed ends.Unopened is = elim is [ inl e ↦ omega (arith, e) | inr e ↦ omega (arith, e) ]
 
-module _ (names : Names) (old new : Outside) (lab lab_after wire wire_after : Wire) (accepted : Accepted) (accepts : Accepts old.file names accepted) where
-  uses : (status : Status) → OpensSo (Some (opening_of accepted.first accepted.script)) lab lab_after → OpensSo (Some (opening_again accepted.second)) wire wire_after
-      → (IsUnopened status → LeavesUnopened lab lab_after wire wire_after) → IsOpenedOnce (IsPerformed status) lab lab_after → IsOpenedOnce (IsPerformed status) wire wire_after
-      → TellsToTheEnd lab lab_after → TellsToTheEnd wire wire_after → lab.faults ≤ lab_after.faults → wire.faults ≤ wire_after.faults → UsesLinks old.file names status lab lab_after wire wire_after
-  uses status lab_opens wire_opens unopened lab_once wire_once lab_lasts wire_lasts lab_counts wire_counts = record {
-    lab_opens = λ differs. (accepted, accepts, lab_opens differs);
-    wire_opens = λ differs. (accepted, accepts, wire_opens differs);
-    unopened = unopened;
-    lab_once = lab_once;
-    wire_once = wire_once;
-    lab_lasts = lab_lasts;
-    wire_lasts = wire_lasts;
-    lab_counts = lab_counts;
-    wire_counts = wire_counts;
-  }
+module _ (names : Names) (old new : Outside) (lab lab_after wire wire_after : Wire) (accepted : Accepted) (accepts : Accepts old.file names accepted) {done refused : Type 0}
+    (opens : OpensBoth (opening_of accepted.first accepted.script) (opening_again accepted.second) done refused session_nothings lab lab_after wire wire_after) where
+  uses : (status : Status) → (IsPerformed status → done) → (IsUnopened status → refused) → UsesLinks old.file names status lab lab_after wire wire_after
+  uses status performed unopened =
+      let first = opens.lab_opens in
+      let second = opens.wire_opens in
+      record {
+        lab_opens = λ differs. (accepted, accepts, first.opens differs);
+        wire_opens = λ differs. (accepted, accepts, second.opens differs);
+        unopened = λ is. opens.unopened (unopened is);
+        lab_once = record { making = first.once.making; at_most_once = first.once.at_most_once; once = λ is. first.once.once (performed is) };
+        wire_once = record { making = second.once.making; at_most_once = second.once.at_most_once; once = λ is. second.once.once (performed is) };
+        lab_lasts = first.lasts;
+        wire_lasts = second.lasts;
+        lab_counts = first.counts;
+        wire_counts = second.counts;
+      }
 
   -- memory ran out, or a link could not be opened
-  ends_unplayed : (end : PlayEnd) → OpensSo (Some (opening_of accepted.first accepted.script)) lab lab_after → OpensSo (Some (opening_again accepted.second)) wire wire_after
-      → (end ≡ ends.Unopened → LeavesUnopened lab lab_after wire wire_after) → IsOpenedOnce ⊥ lab lab_after → IsOpenedOnce ⊥ wire wire_after
-      → TellsToTheEnd lab lab_after → TellsToTheEnd wire wire_after → lab.faults ≤ lab_after.faults → wire.faults ≤ wire_after.faults → KeepsFiles old new
-      → old.write_faults ≡ new.write_faults → RelayEnds (status_of end) names old new lab lab_after wire wire_after
-  ends_unplayed ends.Memory lab_opens wire_opens unopened lab_once wire_once lab_lasts wire_lasts lab_counts wire_counts keeps same =
+  ends_unplayed : (end : PlayEnd) → (end ≡ ends.Unopened → refused) → KeepsFiles old new → old.write_faults ≡ new.write_faults
+      → RelayEnds (status_of end) names old new lab lab_after wire wire_after
+  ends_unplayed ends.Memory unopened keeps same =
       relay_ends (status_of ends.Memory) names old new lab lab_after wire wire_after tt
-      (uses (status_of ends.Memory) lab_opens wire_opens (λ is. absurd (omega (arith, is))) (once-unperformed ends.Memory lab lab_after lab_once) (once-unperformed ends.Memory wire wire_after wire_once) lab_lasts wire_lasts lab_counts wire_counts)
+      (uses (status_of ends.Memory) (λ is. absurd (unperformed ends.Memory is)) (λ is. absurd (omega (arith, is))))
       (record { later = keeps.1; rose = λ is. absurd (omega (arith, is)) }) (record { later = omega (arith, same); rose = λ is. absurd (omega (arith, is)) }) keeps.0
-  ends_unplayed ends.Unopened lab_opens wire_opens unopened lab_once wire_once lab_lasts wire_lasts lab_counts wire_counts keeps same =
+  ends_unplayed ends.Unopened unopened keeps same =
       relay_ends (status_of ends.Unopened) names old new lab lab_after wire wire_after (accepted, accepts)
-      (uses (status_of ends.Unopened) lab_opens wire_opens (λ is. unopened refl) (once-unperformed ends.Unopened lab lab_after lab_once) (once-unperformed ends.Unopened wire wire_after wire_once) lab_lasts wire_lasts lab_counts wire_counts)
+      (uses (status_of ends.Unopened) (λ is. absurd (unperformed ends.Unopened is)) (λ is. unopened refl))
       (record { later = keeps.1; rose = λ is. absurd (omega (arith, is)) }) (record { later = omega (arith, same); rose = λ is. absurd (omega (arith, is)) }) keeps.0
 
-  pub ends_so : (status : Status) (end : PlayEnd) → status ≡ status_of end → OpensSo (Some (opening_of accepted.first accepted.script)) lab lab_after
-      → OpensSo (Some (opening_again accepted.second)) wire wire_after → (end ≡ ends.Unopened → LeavesUnopened lab lab_after wire wire_after)
-      → IsOpenedOnce ⊥ lab lab_after → IsOpenedOnce ⊥ wire wire_after → TellsToTheEnd lab lab_after → TellsToTheEnd wire wire_after → lab.faults ≤ lab_after.faults → wire.faults ≤ wire_after.faults
-      → KeepsFiles old new → old.write_faults ≡ new.write_faults → RelayEnds status names old new lab lab_after wire wire_after
-  ends_so status end is lab_opens wire_opens unopened lab_once wire_once lab_lasts wire_lasts lab_counts wire_counts keeps same =
-      subst (λ (s : Status). RelayEnds s names old new lab lab_after wire wire_after) (sym is) (ends_unplayed end lab_opens wire_opens unopened lab_once wire_once lab_lasts wire_lasts lab_counts wire_counts keeps same)
+  pub ends_so : (status : Status) (end : PlayEnd) → status ≡ status_of end → (end ≡ ends.Unopened → refused) → KeepsFiles old new → old.write_faults ≡ new.write_faults
+      → RelayEnds status names old new lab lab_after wire wire_after
+  ends_so status end is unopened keeps same =
+      subst (λ (s : Status). RelayEnds s names old new lab lab_after wire wire_after) (sym is) (ends_unplayed end unopened keeps same)
 
   -- the text was made, and the last write ends the command
-  pub ends_written : (status : Status) (text : List ℕ) → Writes old.file names lab_after wire_after text → OpensSo (Some (opening_of accepted.first accepted.script)) lab lab_after
-      → OpensSo (Some (opening_again accepted.second)) wire wire_after → IsOpenedOnce (IsPerformed status) lab lab_after → IsOpenedOnce (IsPerformed status) wire wire_after
-      → TellsToTheEnd lab lab_after → TellsToTheEnd wire wire_after → lab.faults ≤ lab_after.faults → wire.faults ≤ wire_after.faults → EndsWriting old.written new.written text status
-      → HasCause old.write_faults new.write_faults (IsUnwritten status) → KeepsFiles old new → RelayEnds status names old new lab lab_after wire wire_after
-  ends_written status text writes lab_opens wire_opens lab_once wire_once lab_lasts wire_lasts lab_counts wire_counts written cause keeps =
+  pub ends_written : (status : Status) (text : List ℕ) → done → IsRelayOf accepted.first accepted.second accepted.script lab_after.told wire_after.told text
+      → EndsWriting old.written new.written text status → HasCause old.write_faults new.write_faults (IsUnwritten status) → KeepsFiles old new
+      → RelayEnds status names old new lab lab_after wire wire_after
+  ends_written status text is relay written cause keeps =
       let late = written_late status old.written new.written text written in
-      relay_ends status names old new lab lab_after wire wire_after (says_written status names old new lab_after wire_after text writes written)
-      (uses status lab_opens wire_opens (λ is. absurd (late.opened is)) lab_once wire_once lab_lasts wire_lasts lab_counts wire_counts)
-      (record { later = keeps.1; rose = λ is. absurd (late.read is) }) cause keeps.0
+      relay_ends status names old new lab lab_after wire wire_after
+      (says_written status names old new lab_after wire_after text
+      (record { accepted = accepted; accepts = accepts; lab_opened = opens.lab_opens.opened is; wire_opened = opens.wire_opens.opened is; relay = relay }) written)
+      (uses status (λ performed. is) (λ unopened. absurd (late.opened unopened)))
+      (record { later = keeps.1; rose = λ unread. absurd (late.read unread) }) cause keeps.0
 
 -- ---- what was not accepted
 

@@ -1,8 +1,8 @@
 //! A first session and the gateway that follows it.
-ghost use Rattle.std.specs.Prelude.{◌≡◌, ◌≤◌, ◌+◌, [], length, reverse, is_ok, IsOk, IsSome, IfOk, OnOk, OnErr, Some, Err, true};
-ghost use Rattle.ua_base.specs.Cause.{Rose, counted_if};
+ghost use Rattle.std.specs.Prelude.{◌≡◌, ◌+◌, [], length, reverse, IsOk, IsSome, IfOk, OnOk, OnErr, Err, true};
+ghost use Rattle.ua_base.specs.Cause.{Rose};
 ghost use Rattle.ua_base.specs.Fates.{AreFates};
-ghost use Rattle.ua_base.specs.Links.{KeepsLink, TellsOn};
+ghost use Rattle.ua_base.specs.Links.{KeepsLink};
 ghost use Rattle.ps_config.specs.declared.parts.Config.{Config as ConfigValue};
 ghost use Rattle.ps_config.specs.Sound.{readers};
 ghost use Rattle.ps_config.specs.Types.{HasTypes};
@@ -11,11 +11,10 @@ ghost use Rattle.ps_script.specs.Sound.{IsScript};
 ghost use Rattle.writer_group.specs.Standing.{IsGood};
 ghost use Rattle.session_model.specs.Counts.{session_nothings};
 ghost use Rattle.commands.specs.Outside.{wire_of};
-ghost use Rattle.script_player.specs.Openings.{OpensOnce};
 ghost use Rattle.script_player.specs.Passing.{MayPass, nothings_by};
 ghost use Rattle.script_player.specs.Player.{IsPlayer, MayDo, config_of};
 ghost use Rattle.script_player.specs.Plays.{opening_of};
-ghost use Rattle.cmd_relay.specs.Links.{LeavesUnopened, OpensSo, opening_again};
+ghost use Rattle.cmd_relay.specs.Links.{OpensBoth, OpensOne, opening_again};
 ghost use Rattle.cmd_relay.specs.Relaying.{Follows, HasRelayed, Holds, HoldsRelay, IsNewRelay, IsRelayOf, IsUntold, MayFollow, RelaysEnd, RelaysLine, ShowsOrigins};
 ghost use Rattle.cmd_relay.specs.Sources.{AreSourced};
 
@@ -50,27 +49,13 @@ pub(crate) fn relayed_text<R: Wait, A: Link, B: Link>(
     requires script { IsScript accepted.now.first accepted.now.script }
     ensures text { IfOk result (λ text. IsRelayOf accepted.now.first accepted.now.second
         accepted.now.script (A.told lab.new) (B.told wire.new) text.items) }
-    ensures lab_opened { OnOk result (A.opened_with lab.new
-        ≡ Some (opening_of accepted.now.first accepted.now.script)) }
-    ensures wire_opened { OnOk result
-        (B.opened_with wire.new ≡ Some (opening_again accepted.now.second)) }
-    ensures lab_opens { OpensSo (Some (opening_of accepted.now.first accepted.now.script))
-        (wire_of A.told A.patience A.faults A.opened_with A.made A.openings lab.old)
-        (wire_of A.told A.patience A.faults A.opened_with A.made A.openings lab.new) }
-    ensures wire_opens { OpensSo (Some (opening_again accepted.now.second))
-        (wire_of B.told B.patience B.faults B.opened_with B.made B.openings wire.old)
-        (wire_of B.told B.patience B.faults B.opened_with B.made B.openings wire.new) }
-    ensures unopened { result ≡ Err PlayEnd.Unopened → LeavesUnopened
+    ensures links { OpensBoth (opening_of accepted.now.first accepted.now.script)
+        (opening_again accepted.now.second)
+        (IsOk result) (result ≡ Err PlayEnd.Unopened) session_nothings
         (wire_of A.told A.patience A.faults A.opened_with A.made A.openings lab.old)
         (wire_of A.told A.patience A.faults A.opened_with A.made A.openings lab.new)
         (wire_of B.told B.patience B.faults B.opened_with B.made B.openings wire.old)
         (wire_of B.told B.patience B.faults B.opened_with B.made B.openings wire.new) }
-    ensures lab_once { OpensOnce A.made A.openings (IsOk result) lab.old lab.new }
-    ensures wire_once { OpensOnce B.made B.openings (IsOk result) wire.old wire.new }
-    ensures lab_lasts { TellsOn A.told A.patience session_nothings lab.old lab.new }
-    ensures wire_lasts { TellsOn B.told B.patience session_nothings wire.old wire.new }
-    ensures lab_counts { A.faults lab.old ≤ A.faults lab.new }
-    ensures wire_counts { B.faults wire.old ≤ B.faults wire.new }
 {
     let relay = Relay::open(
         rt,
@@ -91,29 +76,15 @@ fn open_both<A: Link, B: Link>(
     wire: &mut B,
 ) -> Result<(), PlayEnd>
     requires { IsScript accepted.now.first accepted.now.script }
-    ensures lab_opened { OnOk result (A.opened_with lab.new
-        ≡ Some (opening_of accepted.now.first accepted.now.script)) }
-    ensures wire_opened { OnOk result
-        (B.opened_with wire.new ≡ Some (opening_again accepted.now.second)) }
-    ensures lab_empty { OnOk result (IsUntold (A.told lab.new)) }
-    ensures wire_empty { OnOk result (IsUntold (B.told wire.new)) }
-    ensures lab_opens { OpensSo (Some (opening_of accepted.now.first accepted.now.script))
-        (wire_of A.told A.patience A.faults A.opened_with A.made A.openings lab.old)
-        (wire_of A.told A.patience A.faults A.opened_with A.made A.openings lab.new) }
-    ensures wire_opens { OpensSo (Some (opening_again accepted.now.second))
-        (wire_of B.told B.patience B.faults B.opened_with B.made B.openings wire.old)
-        (wire_of B.told B.patience B.faults B.opened_with B.made B.openings wire.new) }
-    ensures unopened { result ≡ Err PlayEnd.Unopened → LeavesUnopened
+    ensures links { OpensBoth (opening_of accepted.now.first accepted.now.script)
+        (opening_again accepted.now.second)
+        (IsOk result) (result ≡ Err PlayEnd.Unopened) 0
         (wire_of A.told A.patience A.faults A.opened_with A.made A.openings lab.old)
         (wire_of A.told A.patience A.faults A.opened_with A.made A.openings lab.new)
         (wire_of B.told B.patience B.faults B.opened_with B.made B.openings wire.old)
         (wire_of B.told B.patience B.faults B.opened_with B.made B.openings wire.new) }
-    ensures lab_once { OpensOnce A.made A.openings (IsOk result) lab.old lab.new }
-    ensures wire_once { OpensOnce B.made B.openings (IsOk result) wire.old wire.new }
-    ensures lab_lasts { TellsOn A.told A.patience 0 lab.old lab.new }
-    ensures wire_lasts { TellsOn B.told B.patience 0 wire.old wire.new }
-    ensures lab_counts { A.faults lab.old ≤ A.faults lab.new }
-    ensures wire_counts { B.faults wire.old ≤ B.faults wire.new }
+    ensures lab_empty { OnOk result (IsUntold (A.told lab.new)) }
+    ensures wire_empty { OnOk result (IsUntold (B.told wire.new)) }
 {
     let port = accepted.first.publisher.port;
     open_link(lab, port, &accepted.script.fates(alloc)?)?;
@@ -124,17 +95,15 @@ fn open_both<A: Link, B: Link>(
 /// Opens a link, or says why it isn't open.
 fn open_link<L: Link>(link: &mut L, port: u16, fates: &[(u64, Fate)]) -> Result<(), PlayEnd>
     requires { AreFates fates.now }
-    ensures opened { OnOk result
-        (L.opened_with link.new ≡ Some (record { port = port; fates = fates.now })) }
+    ensures opens { OpensOne (record { port = port; fates = fates.now }) (IsOk result) 0
+        (wire_of L.told L.patience L.faults L.opened_with L.made L.openings link.old)
+        (wire_of L.told L.patience L.faults L.opened_with L.made L.openings link.new) }
     ensures empty { OnOk result (IsUntold (L.told link.new)) }
     ensures refused { OnErr result ((L.told link.new ≡ L.told link.old)
-        × (L.opened_with link.new ≡ L.opened_with link.old)) }
-    ensures making { L.made link.new ≡ L.made link.old }
-    ensures counted { L.openings link.new ≡ counted_if (is_ok result) (L.openings link.old) }
-    ensures lasts { TellsOn L.told L.patience 0 link.old link.new }
+        × (L.opened_with link.new ≡ L.opened_with link.old)
+        × (L.openings link.new ≡ L.openings link.old)) }
     ensures unopened { result ≡ Err PlayEnd.Unopened
         → Rose (L.faults link.old) (L.faults link.new) }
-    ensures faults { L.faults link.old ≤ L.faults link.new }
 {
     match link.open(port, fates) {
         Opened::Done => Ok(()),

@@ -9,13 +9,8 @@ pub returns-in-Ok-relayed_text-clause-ends : goal.returns-in-Ok-relayed_text-cla
 returns-in-Ok-relayed_text-clause-ends g c =
     let written = subst (λ (text : List ℕ). EndsWriting (g.K.Sink.written c.args.out.now) (g.K.Sink.written c.write_text.new.out) text c.write_text.result) c.deref.ensures.value c.write_text.ensures.written in
     let e = c.in-Ok-relayed_text.ensures in
-    ends_written _ _ _ _ _ _ _ c.in-Ok.accepted c.in-Ok.ensures.accepts c.write_text.result c.in-Ok-relayed_text.text.items
-    (record { accepted = c.in-Ok.accepted; accepts = c.in-Ok.ensures.accepts; lab_opened = e.lab_opened; wire_opened = e.wire_opened; relay = e.text })
-    e.lab_opens e.wire_opens
-    (record { making = e.lab_once.making; at_most_once = e.lab_once.at_most_once; once = λ is. e.lab_once.once refl })
-    (record { making = e.wire_once.making; at_most_once = e.wire_once.at_most_once; once = λ is. e.wire_once.once refl })
-    (record { tells = e.lab_lasts.tells; left = e.lab_lasts.left }) (record { tells = e.wire_lasts.tells; left = e.wire_lasts.left })
-    e.lab_counts e.wire_counts written c.write_text.ensures.cause (c.in-Ok.ensures.folder.files, c.in-Ok.ensures.folder.counted)
+    ends_written _ _ _ _ _ _ _ c.in-Ok.accepted c.in-Ok.ensures.accepts e.links c.write_text.result c.in-Ok-relayed_text.text.items refl e.text
+    written c.write_text.ensures.cause (c.in-Ok.ensures.folder.files, c.in-Ok.ensures.folder.counted)
 
 pub returns-in-Ok-relayed_text-clause-unlinked : goal.returns-in-Ok-relayed_text-clause-unlinked
 returns-in-Ok-relayed_text-clause-unlinked g c = λ is. absurd ((written_late _ _ _ _ c.write_text.ensures.written).behind_link is)
@@ -31,11 +26,8 @@ returns-in-Err-clause-ends g c =
 pub returns-clause-ends : goal.returns-clause-ends
 returns-clause-ends g c =
     let e = c.in-Err-relayed_text.ensures in
-    ends_so _ _ _ _ _ _ _ c.in-Ok.accepted c.in-Ok.ensures.accepts c.status_of.result c.in-Err-relayed_text.end c.status_of.ensures e.lab_opens e.wire_opens (λ is. e.unopened (ap Err is))
-    (record { making = e.lab_once.making; at_most_once = e.lab_once.at_most_once; once = λ is. absurd is })
-    (record { making = e.wire_once.making; at_most_once = e.wire_once.at_most_once; once = λ is. absurd is })
-    (record { tells = e.lab_lasts.tells; left = e.lab_lasts.left }) (record { tells = e.wire_lasts.tells; left = e.wire_lasts.left })
-    e.lab_counts e.wire_counts (c.in-Ok.ensures.folder.files, c.in-Ok.ensures.folder.counted) refl
+    ends_so _ _ _ _ _ _ _ c.in-Ok.accepted c.in-Ok.ensures.accepts e.links c.status_of.result c.in-Err-relayed_text.end c.status_of.ensures (λ is. ap Err is)
+    (c.in-Ok.ensures.folder.files, c.in-Ok.ensures.folder.counted) refl
 
 pub returns-in-Ok-relayed_text-clause-relayed : goal.returns-in-Ok-relayed_text-clause-relayed
 returns-in-Ok-relayed_text-clause-relayed g c = λ done. writes-relay c.write_text.result _ _ _ _ _ (returns-in-Ok-relayed_text-clause-ends g c).says done

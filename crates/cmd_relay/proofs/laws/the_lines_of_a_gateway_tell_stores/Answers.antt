@@ -1,5 +1,4 @@
-use Rattle.gateway_laws.specs.Gateways.{IsRelay}
-use Rattle.cmd_relay.proofs.Tells.{CameLaw, StoresLaw, held, stores-told, tells-relay, waits}
+use Rattle.cmd_relay.proofs.Tells.{held, stores-told, tells-relay, waits}
 use Rattle.cmd_relay.proofs.laws.the_lines_of_a_gateway_tell_stores.Goals as goal
 
 pub returns-clause-stores : goal.returns-clause-stores
