@@ -1,4 +1,5 @@
 pub mod Calls
 pub mod Nothings
+pub mod SmallText
 pub mod SmallRun
 pub mod Reporting

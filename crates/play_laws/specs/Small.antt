@@ -1,5 +1,5 @@
 -- A script that gives datagrams their fates, played over a link in memory: `write 0 demo a=7`, `tick 100`, and the fates.
-use Rattle.std.specs.Prelude.{◌≡◌, ◌+◌, ◌-◌, ◌^◌, ℕ, false, List, [], ◌∷◌, replicate, Option, Some, IsSome, Result, Err, IsOk}
+use Rattle.std.specs.Prelude.{◌≡◌, ◌+◌, ◌-◌, ◌^◌, ℕ, true, false, List, [], ◌∷◌, replicate, Option, Some, IsSome, Result, Ok, Err, IsOk}
 use Rattle.dataset_meta.specs.DataValues.{DataValue}
 use Rattle.row_words.specs.declared.patch.Patch.{Patch}
 use Rattle.pubsub_model.specs.declared.reading.Why.{Why}
@@ -13,6 +13,8 @@ use Rattle.ps_report.specs.declared.closed.Closed.{Closed}
 use Rattle.ps_script.specs.declared.script.Act.TheVariants as act
 use Rattle.ps_script.specs.declared.script.Line.{Line}
 use Rattle.ps_script.specs.declared.script.Script.{Script}
+use Rattle.ps_script.specs.Scripts.{script}
+use Rattle.ps_script.specs.Values.{ValueReader}
 use Rattle.session_model.specs.Closing.{IsClosedAfter}
 use Rattle.session_model.specs.Events.{reader_at}
 use Rattle.session_model.specs.Steps.{Step, Pump}
@@ -45,6 +47,10 @@ fate_lines at (fated ∷ fates) = fate_line at fated ∷ fate_lines (at + 1) fat
 
 abbrev pub small_script : List (ℕ × Fate) → Script
 small_script fates = record { lines = write_line ∷ tick_line ∷ fate_lines 3 fates; metas = demo ∷ [] }
+
+-- this text is accepted as that script, with the built-in configuration and where links have fates
+abbrev pub IsReadAs : List ℕ → List (ℕ × Fate) → Type 0
+IsReadAs text fates = (reader : ValueReader) → script reader built_in_config text true ≡ Ok (small_script fates)
 
 -- ---- over a link in memory
 

@@ -10,5 +10,6 @@ pub use laws::{
 };
 pub use witness::{
     a_play_over_a_new_link_is_played_over_it, a_script_with_a_fate_ends_so,
+    a_script_with_a_fate_is_a_script, a_script_with_a_fate_is_read_so,
     a_script_with_a_fate_reports_so,
 };

@@ -1,5 +1,5 @@
 //! A script with a fate, played over a link in memory.
-ghost use Rattle.std.specs.Prelude.{[], ◌∷◌, ℕ, List, Some, None, Ok};
+ghost use Rattle.std.specs.Prelude.{[], ◌∷◌, ℕ, List, codes, Some, None, Ok};
 ghost use Rattle.pubsub_model.specs.declared.reading.Why.TheVariants.{Start};
 ghost use Rattle.ua_base.specs.declared.link.Fate.{Fate};
 ghost use Rattle.ua_base.specs.declared.link.Fate.TheVariants as fates;
@@ -7,10 +7,27 @@ ghost use Rattle.mem_edge.specs.declared.memory_link.MemoryLink.{MemoryLink as L
 ghost use Rattle.mem_edge.specs.MemoryLinks.{told_by};
 ghost use Rattle.ps_config.specs.BuiltIn.{built_in_config};
 ghost use Rattle.ps_report.specs.declared.closed.Closed.{Closed};
+ghost use Rattle.ps_script.specs.Sound.{IsScript};
 ghost use Rattle.session_laws.specs.Witness.{small_row};
 ghost use Rattle.script_player.specs.Plays.{IsPlayOf};
 ghost use Rattle.play_laws.specs.Reports.{ReportsSo, both_lost_run, both_lost_text, first_lost_run, first_lost_text, last_lost_run, last_lost_text};
-ghost use Rattle.play_laws.specs.Small.{EndsBehind, IsNewLink, IsPlayedOver, PlaysOver, both_lost, first_lost, last_lost, small_script};
+ghost use Rattle.play_laws.specs.Small.{EndsBehind, IsNewLink, IsPlayedOver, IsReadAs, PlaysOver, both_lost, first_lost, last_lost, small_script};
+
+/// The script `write 0 demo a=7`, `tick 100` with `fate 0 drop`, with `fate 1 drop` or with both is a script of the built-in
+/// configuration, which `play_script` asks for.
+pub fn a_script_with_a_fate_is_a_script()
+    ensures first { IsScript built_in_config (small_script ((0, fates.Drop) ∷ [])) }
+    ensures last { IsScript built_in_config (small_script ((1, fates.Drop) ∷ [])) }
+    ensures both { IsScript built_in_config (small_script ((0, fates.Drop) ∷ (1, fates.Drop) ∷ [])) }
+{}
+
+/// And each is what its text is accepted as where links have fates, as those in memory do.
+pub fn a_script_with_a_fate_is_read_so()
+    ensures first { IsReadAs (codes "write 0 demo a=7\ntick 100\nfate 0 drop\n") ((0, fates.Drop) ∷ []) }
+    ensures last { IsReadAs (codes "write 0 demo a=7\ntick 100\nfate 1 drop\n") ((1, fates.Drop) ∷ []) }
+    ensures both { IsReadAs (codes "write 0 demo a=7\ntick 100\nfate 0 drop\nfate 1 drop\n")
+        ((0, fates.Drop) ∷ (1, fates.Drop) ∷ []) }
+{}
 
 /// The script `write 0 demo a=7`, `tick 100` with a fate, played with the built-in configuration over a link in memory that was
 /// made to do nothing of its own and tells to the end. With `fate 0 drop` the reader gets no start from the first tick, whose key
