@@ -12,10 +12,9 @@ use crate::news::{Head, Standing, Told};
 use dataset_meta::Meta;
 use example_parts::Fault;
 use group_keys::Ring;
-use message_guard::OpenFault;
 use ps_config::{Config, MOST_READERS, ReadGroupPart, ReaderPart};
 use ps_report::{put_feed, put_named};
-use reader_group::{ReaderGroup, Refusal};
+use reader_group::{ReaderGroup, Refusal, Taken};
 use std::alloc::Global;
 use std::io;
 use udp_edge::write_whole;
@@ -69,14 +68,20 @@ impl<'c> Listener<'c> {
         self.group.expire(now);
     }
 
-    /// A datagram comes. The answer is whether it has a token that none of the group's keys has.
-    pub fn datagram(&mut self, now: u64, bytes: &mut [u8]) -> Result<bool, Fault>
+    /// A datagram comes. What is answered isn't counted yet.
+    pub fn give(&mut self, now: u64, bytes: &mut [u8]) -> Result<Taken, Refusal>
         requires { IsListener self.old }
         ensures { IsListener self.new }
     {
-        let answer = self.group.datagram(self.config, now, &self.on, bytes);
-        self.counts.note(&answer)?;
-        Ok(matches!(answer, Err(Refusal::Guard(OpenFault::UnknownToken { .. }))))
+        self.group.datagram(self.config, now, &self.on, bytes)
+    }
+
+    /// Counts what a datagram was answered last.
+    pub fn count(&mut self, answer: &Result<Taken, Refusal>) -> Result<(), Fault>
+        requires { IsListener self.old }
+        ensures { IsListener self.new }
+    {
+        self.counts.note(answer)
     }
 
     /// Goes on with these keys, and says so.

@@ -6,7 +6,9 @@ ghost use Rattle.example_subscriber.specs.Listeners.{IsListener};
 use crate::key_file::KeyFile;
 use crate::listener::{Listener, View};
 use example_parts::{Fault, Stopwatch};
+use message_guard::OpenFault;
 use ps_config::Config;
+use reader_group::{Refusal, Taken};
 use std::alloc::Global;
 use std::io::Read;
 use std::rt::Files;
@@ -88,7 +90,7 @@ fn hear<R: Files + Print + Clock, L: Link>(
     }
 }
 
-/// What a datagram brings. One that comes under a later token than the keys have is given once more, where the file has its key now.
+/// What a datagram brings. One with a token that none of the keys has is given once more, where the file has keys now.
 fn take<R: Files + Print>(
     rt: &R,
     alloc: Global,
@@ -102,13 +104,17 @@ fn take<R: Files + Print>(
     requires listener { IsListener listener.old }
     ensures listener { IsListener listener.new }
 {
-    if !listener.datagram(now, datagram)? {
-        return Ok(());
+    let first = listener.give(now, datagram);
+    if !asks_for_keys(&first) || !finds_keys(rt, alloc, config, now, file, listener)? {
+        return listener.count(&first);
     }
-    if finds_keys(rt, alloc, config, now, file, listener)? {
-        listener.datagram(now, datagram)?;
-    }
-    Ok(())
+    let last = listener.give(now, datagram);
+    listener.count(&last)
+}
+
+/// Whether a datagram has a token that none of the group's keys has.
+fn asks_for_keys(answer: &Result<Taken, Refusal>) -> bool {
+    matches!(answer, Err(Refusal::Guard(OpenFault::UnknownToken { .. })))
 }
 
 /// Goes on with the keys that the file has now, where it has some. The answer is whether it has.
