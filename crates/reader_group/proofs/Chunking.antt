@@ -31,7 +31,7 @@ laid-meets kept number offset total bytes joiner answer fits h =
 -- with the joiner that has it
 pub joining-member : (seat : Seat) (member : MemberValue) (old : Member) (joining : Joining) (joiner : Joiner) → IsMemberOf seat member old → IsJoinerOf joining joiner
     → IsMemberOf seat (record member { joining = joining }) (record old { joiner = joiner })
-joining-member seat member old joining joiner h joins = record { kept = h.kept; passed = h.passed; numbering = h.numbering; joining = joins; timer = h.timer; late = h.late; ready = h.ready }
+joining-member seat member old joining joiner h joins = record { kept = h.kept; passed = h.passed; numbering = h.numbering; joining = joins; timer = h.timer; late = h.late; ready = h.ready; confirmed = h.confirmed }
 
 -- a message that is whole is read
 pub whole-follows : (seat : Seat) (receipt : Receipt) (member : MemberValue) (laid : Joining × Joined) (old : Member) (joiner : Joiner) (total : ℕ) (new : Member) (is_bad : Bool) → IsMemberOf seat member old

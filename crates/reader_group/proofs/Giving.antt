@@ -17,7 +17,7 @@ use Rattle.dataset_reader.specs.Reader as readers
 use Rattle.dataset_reader.specs.Reader.{kept_by, passed_of, after_frame}
 use Rattle.reader_group.specs.declared.member.Member.{Member}
 use Rattle.reader_group.specs.declared.receipt.Receipt.{Receipt}
-use Rattle.reader_group.specs.Members.{Seat, MemberValue, noted, numbering_of}
+use Rattle.reader_group.specs.Members.{Seat, MemberValue, noted, confirmed_by, numbering_of}
 use Rattle.reader_group.specs.MemberWords.{IsMemberOf, Follows}
 use Rattle.reader_group.specs.Plain.{short, given, read_case, taken_in}
 
@@ -43,7 +43,7 @@ frame_is seat receipt member frame old carried h =
 -- after the reader took the frame, and once its answer is noted
 pub given_is : (seat : Seat) (receipt : Receipt) (member : MemberValue) (frame : FrameWords) (old : Member) (between : Reader) (new : Member) (took : Took) → option_map number_of_place frame.number ≡ frame.number → IsMemberOf seat member old
     → kept_by seat.meta.fields between ≡ (after_frame seat.meta old.reader frame receipt.stamp).0 → took ≡ (after_frame seat.meta old.reader frame receipt.stamp).1
-    → ((value : MemberValue) → IsMemberOf seat value (record old { reader = between }) → IsMemberOf seat (noted receipt.moment took.outcome value) new)
+    → ((value : MemberValue) → IsMemberOf seat value (record old { reader = between }) → IsMemberOf seat (confirmed_by receipt.moment took.outcome frame.number (noted receipt.moment took.outcome value)) new)
     → passed_of between ≡ counted (passed_of old.reader) took.outcome → readers.numbering_of between ≡ readers.numbering_of old.reader → IsMemberOf seat (given seat receipt member (frame_in seat.meta.fields frame)) new
 given_is seat receipt member frame old between new took carried h kept took_is note passed numbering =
     let taken = frame_case (numbering_of seat.part.numbering) seat.meta.major member.kept (short (frame_in seat.meta.fields frame)) receipt.stamp in
@@ -57,9 +57,11 @@ given_is seat receipt member frame old between new took carried h kept took_is n
       timer = h.timer;
       late = h.late;
       ready = h.ready;
+      confirmed = h.confirmed;
     } in
-    subst (λ (t : Took). IsMemberOf seat (noted receipt.moment t.outcome (taken_in member taken)) new) answer
-    (note (taken_in member taken) here)
+    let noted_as : Option ℕ → Took → MemberValue = λ number t. confirmed_by receipt.moment t.outcome number (noted receipt.moment t.outcome (taken_in member taken)) in
+    subst (λ (t : Took). IsMemberOf seat (noted_as (option_map number_of_place frame.number) t) new) answer
+    (subst (λ (number : Option ℕ). IsMemberOf seat (noted_as number took) new) (sym carried) (note (taken_in member taken) here))
 
 -- a frame that was read, and was given
 pub read_follows : (seat : Seat) (receipt : Receipt) (member : MemberValue) (frame : Frame) (read : Result Frame FrameFault) (new : Member) → read ≡ Ok frame

@@ -1,5 +1,5 @@
 -- Which read group in memory has the plain reading of what befell it.
-use Rattle.std.specs.Prelude.{◌≡◌, ℕ, ◌<◌, Bool, List, length, map, sum_by, slice_set, slice_index_or, Result}
+use Rattle.std.specs.Prelude.{◌≡◌, ℕ, ◌<◌, Bool, true, false, List, length, map, sum_by, slice_set, slice_index_or, Option, Result, Err}
 use Rattle.std.specs.List.{HoldsAt}
 use Rattle.dataset_reader.specs.declared.reader.Reader.{Reader}
 use Rattle.dataset_reader.specs.Reader.{IsReaderOf, kept_by, passed_of}
@@ -13,13 +13,15 @@ use Rattle.reader_group.specs.declared.member.Member.{Member}
 use Rattle.reader_group.specs.declared.group.ReaderGroup.{ReaderGroup}
 use Rattle.reader_group.specs.declared.receipt.Receipt.{Receipt}
 use Rattle.reader_group.specs.declared.refusal.Refusal.{Refusal}
+use Rattle.reader_group.specs.declared.refusal.Refusal.TheVariants.{NotOurs}
+use Rattle.reader_group.specs.declared.refused.Refused.{Refused}
 use Rattle.reader_group.specs.declared.refusal.Taken.{Taken}
 use Rattle.reader_group.specs.declared.tally.Tally.{Tally}
-use Rattle.reader_group.specs.Members.{Seat, MemberValue, seat_at}
+use Rattle.reader_group.specs.Members.{Seat, MemberValue, seat_at, is_fresh}
 use Rattle.reader_group.specs.MemberWords.{IsMemberOf, HoldsRowsOf}
 use Rattle.reader_group.specs.Payloads.{Payload}
 use Rattle.reader_group.specs.Opening.{bytes_left}
-use Rattle.reader_group.specs.Plain.{Setting, PlainGroup, Event, Fed, all_fed, answer, member_at, opening, step, with_keys}
+use Rattle.reader_group.specs.Plain.{Setting, PlainGroup, Event, Fed, all_fed, answer, member_at, opening, Got, step, with_keys}
 use Rattle.reader_group.specs.Settings.{setting_by, setting_of}
 
 abbrev pub index_of : ReaderGroup → ℕ
@@ -30,6 +32,10 @@ guard_of group = group.guard
 
 abbrev pub members_of : ReaderGroup → List Member
 members_of group = group.members.items
+
+-- what it refused, beside its plain reading
+abbrev pub refused_of : ReaderGroup → Refused
+refused_of group = group.refused
 
 abbrev pub reader_count : ReaderGroup → ℕ
 reader_count group = length (members_of group)
@@ -119,6 +125,24 @@ AreLeft config group datagram bytes =
     let setting = setting_with config group keys in
     bytes ≡ bytes_left setting.group setting.setup plain.accepted datagram
 
+-- a datagram takes a group of this configuration on, is answered and leaves its bytes as the plain reading has it
+pub record HadDatagram (config : Config) (old new : ReaderGroup) (now : ℕ) (on : List Bool) (datagram bytes : List ℕ) (result : Result Taken Refusal) : Type 0 where
+  pub step : StepsBy config (Got now on datagram) old new
+  pub answer : IsAnswer config old now on datagram result
+  pub bytes_left : AreLeft config old datagram bytes
+
+-- a datagram is refused as another's, and all that the plain reading has of the group stays, and so do the bytes
+pub record PassedDatagram (old new : ReaderGroup) (datagram bytes : List ℕ) (result : Result Taken Refusal) : Type 0 where
+  pub answer : result ≡ Err NotOurs
+  pub guard : guard_of new ≡ guard_of old
+  pub members : members_of new ≡ members_of old
+  pub bytes_stay : bytes ≡ datagram
+
+-- where it is to be had
+abbrev pub HadIf : Bool → Config → ReaderGroup → ReaderGroup → ℕ → List Bool → List ℕ → List ℕ → Result Taken Refusal → Type 0
+HadIf true config old new now on datagram bytes result = HadDatagram config old new now on datagram bytes result
+HadIf false config old new now on datagram bytes result = PassedDatagram old new datagram bytes result
+
 -- a ring with these keys renews a group: its plain reading stays, and goes on with the keys
 abbrev pub GoesOnWith : List TokenKeys → ReaderGroup → ReaderGroup → Type 0
 GoesOnWith keys old new =
@@ -153,6 +177,18 @@ abbrev pub IsReadyAt : ReaderGroup → ℕ → Bool → Type 0
 IsReadyAt group index ready =
     (setting : Setting) (plain : PlainGroup) → Stands setting plain group
     → ready ≡ (member_at plain.members index).ready
+
+-- when the row of the reader at this index was confirmed is what the plain reading has
+abbrev pub IsConfirmedAt : ReaderGroup → ℕ → Option ℕ → Type 0
+IsConfirmedAt group index confirmed =
+    (setting : Setting) (plain : PlainGroup) → Stands setting plain group
+    → confirmed ≡ (member_at plain.members index).confirmed
+
+-- whether the row of the reader at this index is fresh is what the plain reading has
+abbrev pub IsFreshAt : ReaderGroup → ℕ → ℕ → ℕ → Bool → Type 0
+IsFreshAt group index now bound fresh =
+    (setting : Setting) (plain : PlainGroup) → Stands setting plain group
+    → fresh ≡ is_fresh now bound (member_at plain.members index).confirmed
 
 -- the readers of a read group of any configuration, before anything
 abbrev pub AreNew : ReadGroupPart → List Member → Type 0

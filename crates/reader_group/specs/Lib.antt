@@ -4,6 +4,7 @@ pub mod SlotFrames
 pub mod Payloads
 pub mod Opening
 pub mod Plain
+pub mod Refused
 pub mod Held
 pub mod MemberWords
 pub mod Begun
@@ -11,6 +12,7 @@ pub mod Settings
 pub mod Groups
 pub mod Traces
 pub mod Complete
+pub mod Confirmed
 pub mod Arrivals
 pub mod Agreeing
 pub mod BadParts

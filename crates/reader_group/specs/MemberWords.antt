@@ -14,12 +14,13 @@ use Rattle.chunker.specs.Joiners.{IsJoinerOf, Meets}
 use Rattle.chunker.specs.Joining.{Joining, chunk_case, joined_bytes}
 use Rattle.chunker.specs.Joins.{numbered}
 use Rattle.ps_config.specs.declared.parts.ReaderPart.{ReaderPart}
+use Rattle.dataset_reader.specs.declared.took.Outcome.{Outcome}
 use Rattle.dataset_reader.specs.Reader.{kept_by, passed_of, IsReaderOf}
 use Rattle.dataset_reader.specs.Reader as readers
 use Rattle.reader_group.specs.declared.member.Member.{Member}
 use Rattle.reader_group.specs.declared.receipt.Receipt.{Receipt}
 use Rattle.reader_group.specs.declared.tally.Tally.{Tally}
-use Rattle.reader_group.specs.Members.{Seat, MemberValue, numbering_of, seat_of}
+use Rattle.reader_group.specs.Members.{Seat, MemberValue, numbering_of, seat_of, noted, confirmed_by}
 use Rattle.reader_group.specs.Payloads.{Payload, Piece, Message, pieces}
 use Rattle.reader_group.specs.Plain.{Fed, fed_by, fed_if, fed_on, given, piece_case, read_case, unfed}
 
@@ -31,6 +32,7 @@ pub record IsMemberOf (seat : Seat) (value : MemberValue) (member : Member) : Ty
   pub timer : IsTimerOf seat.part.timeout value.told member.timer
   pub late : member.late ≡ value.late
   pub ready : member.ready ≡ value.ready
+  pub confirmed : member.confirmed ≡ value.confirmed
 
 -- a reader holds rows of this meta alone, and the frame that was read last is one of it
 pub record HoldsRowsOf (meta : MetaData) (member : Member) : Type 0 where
@@ -57,6 +59,11 @@ pub record IsFed (seat : Seat) (fed : Fed) (member : Member) (tally : Tally) : T
 -- what is kept for the reader, in whichever seat, becomes f of it
 abbrev pub Becomes : (Seat → MemberValue → MemberValue) → Member → Member → Type 0
 Becomes f old new = (seat : Seat) (value : MemberValue) → IsMemberOf seat value old → IsMemberOf seat (f seat value) new
+
+-- after the reader's answer to a message that came at this moment, what is kept for it, in whichever seat
+abbrev pub IsNoted : ℕ → Outcome → Member → Member → Type 0
+IsNoted now outcome old new =
+    Becomes (λ seat value. confirmed_by now outcome old.frame.number (noted now outcome value)) old new
 
 -- what is kept for the reader, in whichever seat, stays
 abbrev pub Stays : Member → Member → Type 0

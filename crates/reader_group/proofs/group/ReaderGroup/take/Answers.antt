@@ -8,8 +8,8 @@ use Rattle.reader_group.specs.Settings.{setting_by}
 use Rattle.reader_group.proofs.Made.{part_contained, setup-mode}
 use Rattle.reader_group.proofs.Seats.{few_readers, seats-length}
 use Rattle.reader_group.proofs.Steps.{IsTaken, bytes-are, receipt_with, made_readers, stands_part, taken_step, taken_answer}
-use Rattle.reader_group.proofs.group.ReaderGroup.datagram.Goals as goal
-use Rattle.reader_group.proofs.group.ReaderGroup.datagram.Goals.{After-self-3-1}
+use Rattle.reader_group.proofs.group.ReaderGroup.take.Goals as goal
+use Rattle.reader_group.proofs.group.ReaderGroup.take.Goals.{After-self-3-1}
 
 pub part_count-requires : goal.part_count-requires
 part_count-requires c =
