@@ -1,5 +1,5 @@
 -- A reader is given what was read.
-use Rattle.std.proofs.Common.{◌≡◌, refl, sym, ap, ◌∙◌, subst, arith, ℕ, ◌<◌, true, false, Option, Some, None}
+use Rattle.std.proofs.Common.{◌≡◌, refl, sym, ap, ◌∙◌, subst, arith, ℕ, ◌<◌, Option, Some, None}
 use Rattle.std.specs.Prelude.{IfSome, option_map, Result, Ok, Err}
 use Rattle.seq_number.specs.Numbers.{number_of_place}
 use Rattle.frame_codec.specs.declared.fault.FrameFault.{FrameFault}
@@ -18,8 +18,12 @@ use Rattle.dataset_reader.specs.Reader.{kept_by, passed_of, after_frame}
 use Rattle.reader_group.specs.declared.member.Member.{Member}
 use Rattle.reader_group.specs.declared.receipt.Receipt.{Receipt}
 use Rattle.reader_group.specs.Members.{Seat, MemberValue, noted, confirmed_by, numbering_of}
-use Rattle.reader_group.specs.MemberWords.{IsMemberOf, Follows}
-use Rattle.reader_group.specs.Plain.{short, given, read_case, taken_in}
+use Rattle.reader_group.specs.declared.notice.PartFault.TheVariants as faults
+use Rattle.reader_group.specs.declared.notice.PartOutcome.{PartOutcome}
+use Rattle.reader_group.specs.declared.notice.PartOutcome.TheVariants as parts
+use Rattle.reader_group.specs.MemberWords.{IsMemberOf, Follows, FollowsRead}
+use Rattle.reader_group.specs.Notices.{given_outcome, outcome_of}
+use Rattle.reader_group.specs.Plain.{short, given, taken_in}
 
 -- a number of 16 bits is the one that is carried
 short_on : (o : Option ℕ) → IfSome o (λ n. n < 65536) → option_map number_of_place o ≡ o
@@ -63,12 +67,18 @@ given_is seat receipt member frame old between new took carried h kept took_is n
     subst (λ (t : Took). IsMemberOf seat (noted_as (option_map number_of_place frame.number) t) new) answer
     (subst (λ (number : Option ℕ). IsMemberOf seat (noted_as number took) new) (sym carried) (note (taken_in member taken) here))
 
+-- what became of the message that the reader answered so
+pub outcome_is : (seat : Seat) (receipt : Receipt) (member : MemberValue) (frame : FrameWords) (old : Member) (took : Took) (outcome : PartOutcome) → option_map number_of_place frame.number ≡ frame.number → IsMemberOf seat member old
+    → took ≡ (after_frame seat.meta old.reader frame receipt.stamp).1 → outcome ≡ outcome_of took.outcome → outcome ≡ given_outcome seat receipt member (frame_in seat.meta.fields frame)
+outcome_is seat receipt member frame old took outcome carried h took_is is =
+    is ∙ ap (λ (t : Took). outcome_of t.outcome) (took_is ∙ ap (λ (t : Kept × Took). t.1) (frame_is seat receipt member frame old carried h))
+
 -- a frame that was read, and was given
-pub read_follows : (seat : Seat) (receipt : Receipt) (member : MemberValue) (frame : Frame) (read : Result Frame FrameFault) (new : Member) → read ≡ Ok frame
-    → IsMemberOf seat (given seat receipt member frame) new → Follows seat (read_case seat receipt member read) new false
-read_follows seat receipt member frame read new is h = subst (λ (r : Result Frame FrameFault). Follows seat (read_case seat receipt member r) new false) (sym is) (h, refl)
+pub read_follows : (seat : Seat) (receipt : Receipt) (member : MemberValue) (frame : Frame) (read : Result Frame FrameFault) (new : Member) (outcome : PartOutcome) → read ≡ Ok frame
+    → Follows seat (given seat receipt member frame) (given_outcome seat receipt member frame) new outcome → FollowsRead seat receipt member read new outcome
+read_follows seat receipt member frame read new outcome is h = subst (λ (r : Result Frame FrameFault). FollowsRead seat receipt member r new outcome) (sym is) h
 
 -- a frame that can't be read leaves the reader as it is
 pub refused_follows : (seat : Seat) (receipt : Receipt) (member : MemberValue) (fault : FrameFault) (read : Result Frame FrameFault) (new : Member) → read ≡ Err fault
-    → IsMemberOf seat member new → Follows seat (read_case seat receipt member read) new true
-refused_follows seat receipt member fault read new is h = subst (λ (r : Result Frame FrameFault). Follows seat (read_case seat receipt member r) new true) (sym is) (h, refl)
+    → IsMemberOf seat member new → FollowsRead seat receipt member read new (parts.Bad (faults.Frame fault))
+refused_follows seat receipt member fault read new is h = subst (λ (r : Result Frame FrameFault). FollowsRead seat receipt member r new (parts.Bad (faults.Frame fault))) (sym is) (h, refl)

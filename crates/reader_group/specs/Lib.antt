@@ -5,6 +5,7 @@ pub mod Payloads
 pub mod Opening
 pub mod Plain
 pub mod Refused
+pub mod Notices
 pub mod Held
 pub mod MemberWords
 pub mod Begun

@@ -104,11 +104,6 @@ fed_on seat receipt fed piece =
     let after = piece_case seat receipt fed.member piece in
     record { member = after.0; matched = fed.matched + 1; bad = fed.bad + count_if after.1 }
 
--- a part that is the reader's, or isn't
-abbrev pub fed_if : Seat → Receipt → Bool → Fed → Piece → Fed
-fed_if seat receipt true fed piece = fed_on seat receipt fed piece
-fed_if seat receipt false fed piece = fed
-
 abbrev pub cut_if : Bool → Why → MemberValue → MemberValue
 cut_if true why member = cut_member why member
 cut_if false why member = member

@@ -6,6 +6,7 @@ use crate::filter::takes_number;
 use crate::guarding::{guard_of, stamp_of};
 use crate::making::{new_members, part_at};
 use crate::member::Member;
+use crate::notice::Notice;
 use crate::opening::{Buffers, open, payload_held};
 use crate::receipt::Receipt;
 use crate::refusal::{Refusal, Taken};
@@ -25,6 +26,8 @@ pub struct ReaderGroup {
     index: u8,
     guard: Guard,
     members: Vec<Member>,
+    // what is noted of each reader, by its index
+    notices: [Notice; 16],
     refused: Refused,
     // room for what one datagram tells; it says nothing between two
     room: Buffers,
@@ -38,9 +41,10 @@ impl ReaderGroup {
     ghost use Rattle.group_keys.specs.Ring.{key_sets};
     ghost use Rattle.message_guard.specs.Protection.{keys_in};
     ghost use Rattle.reader_group.specs.Filter.{takes_number};
+    ghost use Rattle.reader_group.specs.Notices.{notice_at};
     ghost use Rattle.reader_group.specs.Plain.{Setting, Got, Expired, Stopped};
     ghost use Rattle.reader_group.specs.Refused.{KeepsSender, none_refused, refused_on};
-    ghost use Rattle.reader_group.specs.Groups.{IsOpening, TakesOn, StepsBy, IsAnswer, AreLeft, IsKeptAt, IsPassedAt, IsMadeAt, IsLateAt, IsReadyAt, IsConfirmedAt, IsFreshAt, IsMadeOf, HadIf, GoesOnWith, index_of, reader_count, guard_of, members_of, refused_of};
+    ghost use Rattle.reader_group.specs.Groups.{IsOpening, TakesOn, StepsBy, IsAnswer, AreLeft, IsKeptAt, IsPassedAt, IsMadeAt, IsLateAt, IsReadyAt, IsConfirmedAt, IsFreshAt, IsMadeOf, AreNoticed, HadIf, GoesOnWith, index_of, reader_count, guard_of, members_of, notices_of, no_notices, refused_of};
 
     /// The read group with this index, before anything.
     pub fn new(alloc: Global, config: &Config, index: u8) -> Result<ReaderGroup, NoMemory>
@@ -50,6 +54,7 @@ impl ReaderGroup {
         ensures index { IfOk result (λ group. index_of group ≡ index) }
         ensures opening { IfOk result (IsOpening config.now index) }
         ensures refused { IfOk result (λ group. refused_of group ≡ none_refused) }
+        ensures notices { IfOk result (λ group. notices_of group ≡ no_notices) }
     {
         let part = part_at(config, index);
         let guard = guard_of(config, part);
@@ -58,6 +63,7 @@ impl ReaderGroup {
             index,
             guard,
             members,
+            notices: [Notice::default(); 16],
             refused: Refused::default(),
             room: Buffers {
                 ids: ArrayVec::new(),
@@ -81,6 +87,7 @@ impl ReaderGroup {
         ensures step { StepsBy config.now (Got now on.now bytes.old) self.old self.new }
         ensures answer { IsAnswer config.now self.old now on.now bytes.old result }
         ensures bytes { AreLeft config.now self.old bytes.old bytes.new }
+        ensures notices { AreNoticed config.now self.old now on.now bytes.old self.new }
         ensures refused_guard { OnErr result (guard_of self.new ≡ guard_of self.old) }
         ensures refused_members { OnErr result (members_of self.new ≡ members_of self.old) }
         ensures refused { refused_of self.new ≡ refused_on (refused_of self.old) result bytes.old }
@@ -133,6 +140,7 @@ impl ReaderGroup {
         ensures step { StepsBy config.now (Got now on.now bytes.old) self.old self.new }
         ensures answer { IsAnswer config.now self.old now on.now bytes.old result }
         ensures bytes { AreLeft config.now self.old bytes.old bytes.new }
+        ensures notices { AreNoticed config.now self.old now on.now bytes.old self.new }
         ensures sender { IfErr result (KeepsSender bytes.old bytes.new) }
         ensures refused_guard { OnErr result (guard_of self.new ≡ guard_of self.old) }
         ensures refused_members { OnErr result (members_of self.new ≡ members_of self.old) }
@@ -150,6 +158,7 @@ impl ReaderGroup {
         };
         let tally = feed_all(
             &mut self.members,
+            &mut self.notices,
             config,
             part,
             &receipt,
@@ -168,6 +177,7 @@ impl ReaderGroup {
     pub fn expire(&mut self, now: u64)
         ensures step { (setting : Setting) → TakesOn setting (Expired now) self.old self.new }
         ensures refused { refused_of self.new ≡ refused_of self.old }
+        ensures notices { notices_of self.new ≡ notices_of self.old }
         ensures made { (config : AnyConfig) → IsMadeOf config self.old → IsMadeOf config self.new }
         ensures index { index_of self.new ≡ index_of self.old }
     {
@@ -180,6 +190,7 @@ impl ReaderGroup {
         requires { index < reader_count self.old }
         ensures step { (setting : Setting) → TakesOn setting (Stopped index why) self.old self.new }
         ensures refused { refused_of self.new ≡ refused_of self.old }
+        ensures notices { notices_of self.new ≡ notices_of self.old }
         ensures made { (config : AnyConfig) → IsMadeOf config self.old → IsMadeOf config self.new }
         ensures index { index_of self.new ≡ index_of self.old }
     {
@@ -192,6 +203,7 @@ impl ReaderGroup {
         ensures keys { GoesOnWith (map keys_in (key_sets ring)) self.old self.new }
         ensures members { members_of self.new ≡ members_of self.old }
         ensures refused { refused_of self.new ≡ refused_of self.old }
+        ensures notices { notices_of self.new ≡ notices_of self.old }
         ensures made { (config : AnyConfig) → IsMadeOf config self.old → IsMadeOf config self.new }
         ensures index { index_of self.new ≡ index_of self.old }
     {
@@ -251,6 +263,15 @@ impl ReaderGroup {
             Some(moment) => now.saturating_sub(moment) <= bound,
             None => false,
         }
+    }
+
+    /// What is noted of a reader's parts, over all datagrams since the group was made: what couldn't be read, and why, and what was
+    /// of another major version. How often each was passed over tells `Reader::passed`.
+    pub fn notice(&self, index: u8) -> Notice
+        requires { index < reader_count self.now }
+        ensures { result ≡ notice_at (notices_of self.now) index }
+    {
+        self.notices[usize::from(index)]
     }
 
     /// What the group refused since it was made.

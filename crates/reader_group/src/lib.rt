@@ -2,6 +2,7 @@
 //! DataSetMessages to the readers of its writer.
 #![tactic(auto)]
 
+mod account;
 mod begun;
 mod feeding;
 mod filter;
@@ -10,6 +11,7 @@ mod guarding;
 mod laws;
 mod making;
 mod member;
+mod notice;
 mod opening;
 mod payload;
 mod pieces;
@@ -30,6 +32,7 @@ pub use laws::{
     secured_readers_have_their_records, what_a_secured_group_takes_is_signed,
     what_is_not_asked_for_is_not_ours, what_is_spelled_is_handed_on,
 };
+pub use notice::{Notice, PartFault};
 pub use receipt::Receipt;
 pub use refusal::{Refusal, Taken};
 pub use refused::{LastRefusal, Refused, Sender};
