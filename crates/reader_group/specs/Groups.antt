@@ -9,6 +9,7 @@ use Rattle.message_guard.specs.Guards.{IsGuardOf, setup_of}
 use Rattle.ps_config.specs.declared.parts.Config.{Config}
 use Rattle.ps_config.specs.declared.parts.ReadGroupPart.{ReadGroupPart}
 use Rattle.ps_config.specs.Sound.{IsSound}
+use Rattle.receive_timer.specs.Told.{TellsDue}
 use Rattle.reader_group.specs.declared.member.Member.{Member}
 use Rattle.reader_group.specs.declared.group.ReaderGroup.{ReaderGroup}
 use Rattle.reader_group.specs.declared.notice.Notice.{Notice}
@@ -212,6 +213,12 @@ abbrev pub IsFreshAt : ReaderGroup → ℕ → ℕ → ℕ → Bool → Type 0
 IsFreshAt group index now bound fresh =
     (setting : Setting) (plain : PlainGroup) → Stands setting plain group
     → fresh ≡ is_fresh now bound (member_at plain.members index).confirmed
+
+-- the moment from which on the reader at this index times out is what the plain reading has
+abbrev pub IsDueAt : ReaderGroup → ℕ → Option ℕ → Type 0
+IsDueAt group index moment =
+    (setting : Setting) (plain : PlainGroup) → Stands setting plain group
+    → TellsDue (seat_at setting.seats index).part.timeout (member_at plain.members index).told moment
 
 -- the readers of a read group of any configuration, before anything
 abbrev pub AreNew : ReadGroupPart → List Member → Type 0

@@ -44,7 +44,7 @@ impl ReaderGroup {
     ghost use Rattle.reader_group.specs.Notices.{notice_at};
     ghost use Rattle.reader_group.specs.Plain.{Setting, Got, Expired, Stopped};
     ghost use Rattle.reader_group.specs.Refused.{KeepsSender, none_refused, refused_on};
-    ghost use Rattle.reader_group.specs.Groups.{IsOpening, TakesOn, StepsBy, IsAnswer, AreLeft, IsKeptAt, IsPassedAt, IsMadeAt, IsLateAt, IsReadyAt, IsConfirmedAt, IsFreshAt, IsMadeOf, AreNoticed, HadIf, GoesOnWith, index_of, reader_count, guard_of, members_of, notices_of, no_notices, refused_of};
+    ghost use Rattle.reader_group.specs.Groups.{IsOpening, TakesOn, StepsBy, IsAnswer, AreLeft, IsKeptAt, IsPassedAt, IsMadeAt, IsLateAt, IsReadyAt, IsDueAt, IsConfirmedAt, IsFreshAt, IsMadeOf, AreNoticed, HadIf, GoesOnWith, index_of, reader_count, guard_of, members_of, notices_of, no_notices, refused_of};
 
     /// The read group with this index, before anything.
     pub fn new(alloc: Global, config: &Config, index: u8) -> Result<ReaderGroup, NoMemory>
@@ -243,6 +243,15 @@ impl ReaderGroup {
         self.members[usize::from(index)].ready
     }
 
+    /// The moment, in milliseconds, from which on `expire` cuts a reader, as long as no message comes. None where it has no timeout,
+    /// where no message came since the last cut, and where 64 bits don't hold the moment.
+    pub fn timeout_at(&self, index: u8) -> Option<u64>
+        requires { index < reader_count self.now }
+        ensures { IsDueAt self.now index result }
+    {
+        self.members[usize::from(index)].due_from()
+    }
+
     /// The moment, in milliseconds, of the last message that a reader took with none missing up to it, where it holds a row: a key
     /// frame, a delta frame that follows, or a keep-alive that names the row's message as the last. A reader that goes by no
     /// numbers has it from key frames alone, since nothing would show that one was lost.
@@ -266,7 +275,7 @@ impl ReaderGroup {
     }
 
     /// What is noted of a reader's parts, over all datagrams since the group was made: what couldn't be read, and why, and what was
-    /// of another major version. How often each was passed over tells `Reader::passed`.
+    /// of another major version. `Reader::passed` tells how often messages were passed over.
     pub fn notice(&self, index: u8) -> Notice
         requires { index < reader_count self.now }
         ensures { result ≡ notice_at (notices_of self.now) index }

@@ -29,7 +29,8 @@ impl Member {
     ghost use Rattle.std.specs.Prelude.{◌≡◌};
     ghost use Rattle.dataset_meta.specs.Metas.{MetaData};
     ghost use Rattle.pubsub_model.specs.declared.reading.Why.TheVariants.{NewToken};
-    ghost use Rattle.reader_group.specs.Members.{seat_of, new_member, cut_member, stopped, expired, seen, noted, confirmed_by};
+    ghost use Rattle.reader_group.specs.Members.{Seat, MemberValue, seat_of, new_member, cut_member, stopped, expired, seen, noted, confirmed_by};
+    ghost use Rattle.receive_timer.specs.Told.{TellsDue};
     ghost use Rattle.reader_group.specs.Plain.{cut_if};
     ghost use Rattle.reader_group.specs.MemberWords.{IsMemberOf, HoldsRowsOf, Becomes, IsNoted};
 
@@ -132,6 +133,14 @@ impl Member {
     {
         let held = self.reader.number();
         self.confirmed = confirmed_on(now, outcome, self.frame.number, held, self.confirmed);
+    }
+
+    /// The moment from which on the reader times out, as long as no message comes.
+    pub fn due_from(&self) -> Option<u64>
+        ensures { (seat : Seat) (value : MemberValue) → IsMemberOf seat value self.now
+            → TellsDue seat.part.timeout value.told result }
+    {
+        self.timer.due_from()
     }
 
     // A message came.
