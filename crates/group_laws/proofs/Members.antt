@@ -6,7 +6,7 @@ use Rattle.dataset_reader.specs.declared.took.Outcome.TheVariants as outcomes
 use Rattle.frame_codec.specs.Frames.{Frame}
 use Rattle.chunker.specs.Joining.{Joining}
 use Rattle.reader_group.specs.declared.receipt.Receipt.{Receipt}
-use Rattle.reader_group.specs.Members.{Seat, MemberValue, noted, numbering_of}
+use Rattle.reader_group.specs.Members.{Seat, MemberValue, noted, confirmed_by, numbering_of}
 use Rattle.reader_group.specs.Plain.{given, short, taken_in}
 
 abbrev pub with_joining : MemberValue → Joining → MemberValue
@@ -23,7 +23,7 @@ noted-joining now outcomes.Unnumbered member joining = refl
 pub given-joining : (seat : Seat) (receipt : Receipt) (member : MemberValue) (frame : Frame) (joining : Joining) → given seat receipt (with_joining member joining) frame ≡ with_joining (given seat receipt member frame) joining
 given-joining seat receipt member frame joining =
     let taken = frame_case (numbering_of seat.part.numbering) seat.meta.major member.kept (short frame) receipt.stamp in
-    noted-joining receipt.moment taken.1.outcome (taken_in member taken) joining
+    ap (confirmed_by receipt.moment taken.1.outcome (short frame).number) (noted-joining receipt.moment taken.1.outcome (taken_in member taken) joining)
 
 joining-noted : (now : ℕ) (outcome : Outcome) (member : MemberValue) → (noted now outcome member).joining ≡ member.joining
 joining-noted now outcomes.Held member = refl

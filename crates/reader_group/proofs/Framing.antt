@@ -77,6 +77,10 @@ own-major meta frame (Some got) e = grind (arith, nat_tests)
 passed-at : (word : NumberingWord) (list : List Mark) (m : MemberValue) (passed : Passed) → MemberAt word list m → MemberAt word list (record m { passed = passed })
 passed-at word list m passed h = record { keeps = h.keeps; joins = h.joins; seen = h.seen; late = h.late; ready = h.ready }
 
+-- when the row was confirmed stands in none either
+confirmed-at : (word : NumberingWord) (list : List Mark) (m : MemberValue) (confirmed : Option ℕ) → MemberAt word list m → MemberAt word list (record m { confirmed = confirmed })
+confirmed-at word list m confirmed h = record { keeps = h.keeps; joins = h.joins; seen = h.seen; late = h.late; ready = h.ready }
+
 foreign-case : (numbering : Numbering) (major : ℕ) (message : Frame) (s carries : Option ℕ) (m : MemberValue) (now : ℕ)
     → option_map_or (λ (own : ℕ). not (own == major)) carries false ≡ true → (word : NumberingWord) (list : List Mark) → MemberAt word list m
     → MemberAt word list (after_took now m (major_case numbering major m.kept message s carries))
@@ -191,5 +195,9 @@ pub member_read : StepKeeps → (word : NumberingWord) (way : Way) (place : ℕ 
     → MemberAt word (read_on way place now s before read) (read_case way.seat (receipt_at now s) m read).0
 member_read laws word way place before m now s (Err fault) is num near h = h
 member_read laws word way place before m now s (Ok f) is num near h =
-    subst (λ (w : NumberingWord). MemberAt word (item_on way now s before (frame_of way place f)) (after_took now m (frame_case (numbering_of w) way.seat.meta.major m.kept (short f) s))) (sym num)
-    (member_framed laws (is_foreign way.seat.meta f) word way place f before m now s is refl (ap is_numbered num) near h)
+    let list = item_on way now s before (frame_of way place f) in
+    let taken = frame_case (numbering_of way.seat.part.numbering) way.seat.meta.major m.kept (short f) s in
+    let after : MemberAt word list (after_took now m taken) =
+    subst (λ (w : NumberingWord). MemberAt word list (after_took now m (frame_case (numbering_of w) way.seat.meta.major m.kept (short f) s))) (sym num)
+    (member_framed laws (is_foreign way.seat.meta f) word way place f before m now s is refl (ap is_numbered num) near h) in
+    confirmed-at word list (after_took now m taken) _ after

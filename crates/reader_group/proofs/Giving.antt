@@ -1,5 +1,5 @@
 -- A reader is given what was read.
-use Rattle.std.proofs.Common.{◌≡◌, refl, sym, ap, ◌∙◌, subst, arith, ℕ, ◌<◌, true, false, Option, Some, None}
+use Rattle.std.proofs.Common.{◌≡◌, refl, sym, ap, ◌∙◌, subst, arith, ℕ, ◌<◌, Option, Some, None}
 use Rattle.std.specs.Prelude.{IfSome, option_map, Result, Ok, Err}
 use Rattle.seq_number.specs.Numbers.{number_of_place}
 use Rattle.frame_codec.specs.declared.fault.FrameFault.{FrameFault}
@@ -17,9 +17,13 @@ use Rattle.dataset_reader.specs.Reader as readers
 use Rattle.dataset_reader.specs.Reader.{kept_by, passed_of, after_frame}
 use Rattle.reader_group.specs.declared.member.Member.{Member}
 use Rattle.reader_group.specs.declared.receipt.Receipt.{Receipt}
-use Rattle.reader_group.specs.Members.{Seat, MemberValue, noted, numbering_of}
-use Rattle.reader_group.specs.MemberWords.{IsMemberOf, Follows}
-use Rattle.reader_group.specs.Plain.{short, given, read_case, taken_in}
+use Rattle.reader_group.specs.Members.{Seat, MemberValue, noted, confirmed_by, numbering_of}
+use Rattle.reader_group.specs.declared.notice.PartFault.TheVariants as faults
+use Rattle.reader_group.specs.declared.notice.PartOutcome.{PartOutcome}
+use Rattle.reader_group.specs.declared.notice.PartOutcome.TheVariants as parts
+use Rattle.reader_group.specs.MemberWords.{IsMemberOf, Follows, FollowsRead}
+use Rattle.reader_group.specs.Notices.{given_outcome, outcome_of}
+use Rattle.reader_group.specs.Plain.{short, given, taken_in}
 
 -- a number of 16 bits is the one that is carried
 short_on : (o : Option ℕ) → IfSome o (λ n. n < 65536) → option_map number_of_place o ≡ o
@@ -43,7 +47,7 @@ frame_is seat receipt member frame old carried h =
 -- after the reader took the frame, and once its answer is noted
 pub given_is : (seat : Seat) (receipt : Receipt) (member : MemberValue) (frame : FrameWords) (old : Member) (between : Reader) (new : Member) (took : Took) → option_map number_of_place frame.number ≡ frame.number → IsMemberOf seat member old
     → kept_by seat.meta.fields between ≡ (after_frame seat.meta old.reader frame receipt.stamp).0 → took ≡ (after_frame seat.meta old.reader frame receipt.stamp).1
-    → ((value : MemberValue) → IsMemberOf seat value (record old { reader = between }) → IsMemberOf seat (noted receipt.moment took.outcome value) new)
+    → ((value : MemberValue) → IsMemberOf seat value (record old { reader = between }) → IsMemberOf seat (confirmed_by receipt.moment took.outcome frame.number (noted receipt.moment took.outcome value)) new)
     → passed_of between ≡ counted (passed_of old.reader) took.outcome → readers.numbering_of between ≡ readers.numbering_of old.reader → IsMemberOf seat (given seat receipt member (frame_in seat.meta.fields frame)) new
 given_is seat receipt member frame old between new took carried h kept took_is note passed numbering =
     let taken = frame_case (numbering_of seat.part.numbering) seat.meta.major member.kept (short (frame_in seat.meta.fields frame)) receipt.stamp in
@@ -57,16 +61,24 @@ given_is seat receipt member frame old between new took carried h kept took_is n
       timer = h.timer;
       late = h.late;
       ready = h.ready;
+      confirmed = h.confirmed;
     } in
-    subst (λ (t : Took). IsMemberOf seat (noted receipt.moment t.outcome (taken_in member taken)) new) answer
-    (note (taken_in member taken) here)
+    let noted_as : Option ℕ → Took → MemberValue = λ number t. confirmed_by receipt.moment t.outcome number (noted receipt.moment t.outcome (taken_in member taken)) in
+    subst (λ (t : Took). IsMemberOf seat (noted_as (option_map number_of_place frame.number) t) new) answer
+    (subst (λ (number : Option ℕ). IsMemberOf seat (noted_as number took) new) (sym carried) (note (taken_in member taken) here))
+
+-- what became of the message that the reader answered so
+pub outcome_is : (seat : Seat) (receipt : Receipt) (member : MemberValue) (frame : FrameWords) (old : Member) (took : Took) (outcome : PartOutcome) → option_map number_of_place frame.number ≡ frame.number → IsMemberOf seat member old
+    → took ≡ (after_frame seat.meta old.reader frame receipt.stamp).1 → outcome ≡ outcome_of took.outcome → outcome ≡ given_outcome seat receipt member (frame_in seat.meta.fields frame)
+outcome_is seat receipt member frame old took outcome carried h took_is is =
+    is ∙ ap (λ (t : Took). outcome_of t.outcome) (took_is ∙ ap (λ (t : Kept × Took). t.1) (frame_is seat receipt member frame old carried h))
 
 -- a frame that was read, and was given
-pub read_follows : (seat : Seat) (receipt : Receipt) (member : MemberValue) (frame : Frame) (read : Result Frame FrameFault) (new : Member) → read ≡ Ok frame
-    → IsMemberOf seat (given seat receipt member frame) new → Follows seat (read_case seat receipt member read) new false
-read_follows seat receipt member frame read new is h = subst (λ (r : Result Frame FrameFault). Follows seat (read_case seat receipt member r) new false) (sym is) (h, refl)
+pub read_follows : (seat : Seat) (receipt : Receipt) (member : MemberValue) (frame : Frame) (read : Result Frame FrameFault) (new : Member) (outcome : PartOutcome) → read ≡ Ok frame
+    → Follows seat (given seat receipt member frame) (given_outcome seat receipt member frame) new outcome → FollowsRead seat receipt member read new outcome
+read_follows seat receipt member frame read new outcome is h = subst (λ (r : Result Frame FrameFault). FollowsRead seat receipt member r new outcome) (sym is) h
 
 -- a frame that can't be read leaves the reader as it is
 pub refused_follows : (seat : Seat) (receipt : Receipt) (member : MemberValue) (fault : FrameFault) (read : Result Frame FrameFault) (new : Member) → read ≡ Err fault
-    → IsMemberOf seat member new → Follows seat (read_case seat receipt member read) new true
-refused_follows seat receipt member fault read new is h = subst (λ (r : Result Frame FrameFault). Follows seat (read_case seat receipt member r) new true) (sym is) (h, refl)
+    → IsMemberOf seat member new → FollowsRead seat receipt member read new (parts.Bad (faults.Frame fault))
+refused_follows seat receipt member fault read new is h = subst (λ (r : Result Frame FrameFault). FollowsRead seat receipt member r new (parts.Bad (faults.Frame fault))) (sym is) (h, refl)

@@ -25,6 +25,10 @@ pub mod Taking
 pub mod BadParts
 pub mod Handing
 pub mod Numbered
+pub mod Confirmed
+pub mod Refusing
+pub mod Outcomes
+pub mod Noticing
 pub mod Signed
 pub mod Asked
 pub mod BytesLeft

@@ -15,31 +15,34 @@ use Rattle.ps_config.specs.declared.parts.ReaderPart.{ReaderPart}
 use Rattle.reader_group.specs.declared.payload.Messages.{Messages as MessagesWords}
 use Rattle.reader_group.specs.declared.receipt.Receipt.{Receipt}
 use Rattle.reader_group.specs.declared.member.Member.{Member}
-use Rattle.reader_group.specs.declared.tally.Tally.{Tally}
+use Rattle.reader_group.specs.declared.account.Account.{Account}
+use Rattle.reader_group.specs.declared.notice.PartOutcome.{PartOutcome}
 use Rattle.reader_group.specs.Members.{MemberValue, Seat}
-use Rattle.reader_group.specs.MemberWords.{Follows, IsFed, IsMemberOf}
+use Rattle.reader_group.specs.MemberWords.{Follows, IsFed}
 use Rattle.reader_group.specs.Payloads.{Message, Messages, pieces}
 use Rattle.reader_group.specs.Held.{listed, listed_at, listed_upto}
-use Rattle.reader_group.specs.Plain.{Fed, fed_on, fed_if, count_if, piece_case, unfed}
+use Rattle.reader_group.specs.Notices.{AccountValue, account_on, account_if, no_account, piece_outcome}
+use Rattle.reader_group.specs.Plain.{piece_case}
+use Rattle.reader_group.proofs.Taking.{Counts, more-fed}
 
 -- a message for the reader of this writer, or for another
-abbrev pub offered : Seat → Receipt → ℕ → Fed → ℕ × List ℕ → Fed
-offered seat receipt writer fed part = fed_if seat receipt (part.0 == writer) fed (Message part.1)
+abbrev pub offered : Seat → Receipt → ℕ → AccountValue → ℕ × List ℕ → AccountValue
+offered seat receipt writer fed part = account_if seat receipt (part.0 == writer) fed (Message part.1)
 
-offered_on : (b : Bool) (seat : Seat) (receipt : Receipt) (reader : ReaderPart) (fed : Fed) (part : ℕ × List ℕ) (parts : List (ℕ × List ℕ)) → (part.0 == reader.writer) ≡ b
-    → ((next : Fed) → fold (offered seat receipt reader.writer) next parts ≡ fold (fed_on seat receipt) next (pieces reader (Messages parts)))
-    → fold (offered seat receipt reader.writer) (offered seat receipt reader.writer fed part) parts ≡ fold (fed_on seat receipt) fed (pieces reader (Messages (part ∷ parts)))
-offered_on true seat receipt reader fed part parts e behind = rw e (behind (fed_on seat receipt fed (Message part.1)))
+offered_on : (b : Bool) (seat : Seat) (receipt : Receipt) (reader : ReaderPart) (fed : AccountValue) (part : ℕ × List ℕ) (parts : List (ℕ × List ℕ)) → (part.0 == reader.writer) ≡ b
+    → ((next : AccountValue) → fold (offered seat receipt reader.writer) next parts ≡ fold (account_on seat receipt) next (pieces reader (Messages parts)))
+    → fold (offered seat receipt reader.writer) (offered seat receipt reader.writer fed part) parts ≡ fold (account_on seat receipt) fed (pieces reader (Messages (part ∷ parts)))
+offered_on true seat receipt reader fed part parts e behind = rw e (behind (account_on seat receipt fed (Message part.1)))
 offered_on false seat receipt reader fed part parts e behind = rw e (behind fed)
 
 -- the messages that are the reader's, one after another
-pub offered-all : (seat : Seat) (receipt : Receipt) (reader : ReaderPart) (fed : Fed) (parts : List (ℕ × List ℕ))
-    → fold (offered seat receipt reader.writer) fed parts ≡ fold (fed_on seat receipt) fed (pieces reader (Messages parts))
+pub offered-all : (seat : Seat) (receipt : Receipt) (reader : ReaderPart) (fed : AccountValue) (parts : List (ℕ × List ℕ))
+    → fold (offered seat receipt reader.writer) fed parts ≡ fold (account_on seat receipt) fed (pieces reader (Messages parts))
 offered-all seat receipt reader fed [] = refl
 offered-all seat receipt reader fed (part ∷ parts) =
     offered_on (part.0 == reader.writer) seat receipt reader fed part parts refl (λ next. offered-all seat receipt reader next parts)
 
-pub offered-more : (seat : Seat) (receipt : Receipt) (writer : ℕ) (fed : Fed) (messages : MessagesWords) (index : ℕ) → index < length (listed messages)
+pub offered-more : (seat : Seat) (receipt : Receipt) (writer : ℕ) (fed : AccountValue) (messages : MessagesWords) (index : ℕ) → index < length (listed messages)
     → fold (offered seat receipt writer) fed (take (index + 1) (listed messages))
     ≡ offered seat receipt writer (fold (offered seat receipt writer) fed (take index (listed messages))) (listed_at messages index)
 offered-more seat receipt writer fed messages index within = fold_more (offered seat receipt writer) fed (listed messages) index (0, []) within
@@ -55,9 +58,9 @@ listed-length messages count =
 take_all : {X : Type 0} (xs : List X) (n : ℕ) → n ≡ length xs → take n xs ≡ xs
 take_all xs n is = ap (λ (k : ℕ). take k xs) is ∙ take-length xs
 
-pub offered-end : (seat : Seat) (receipt : Receipt) (reader : ReaderPart) (fed : Fed) (messages : MessagesWords) (index : ℕ) → length messages.ids.now ≡ 2 * length messages.parts.now
+pub offered-end : (seat : Seat) (receipt : Receipt) (reader : ReaderPart) (fed : AccountValue) (messages : MessagesWords) (index : ℕ) → length messages.ids.now ≡ 2 * length messages.parts.now
     → index ≡ length messages.parts.now
-    → fold (offered seat receipt reader.writer) fed (take index (listed messages)) ≡ fold (fed_on seat receipt) fed (pieces reader (Messages (listed messages)))
+    → fold (offered seat receipt reader.writer) fed (take index (listed messages)) ≡ fold (account_on seat receipt) fed (pieces reader (Messages (listed messages)))
 offered-end seat receipt reader fed messages index count is =
     ap (fold (offered seat receipt reader.writer) fed) (take_all (listed messages) index (is ∙ sym (listed-length messages count)))
     ∙ offered-all seat receipt reader fed (listed messages)
@@ -81,21 +84,20 @@ listed-bytes messages index bytes count within bytes_are =
     ∙ get_or_from_slice_get frames index bytes [] bytes_are
 
 -- messages between which all are of other writers bring the reader nothing
-pub offered-passed : (seat : Seat) (receipt : Receipt) (reader : ReaderPart) (fed : Fed) (messages : MessagesWords) (from to : ℕ)
+pub offered-passed : (seat : Seat) (receipt : Receipt) (reader : ReaderPart) (fed : AccountValue) (messages : MessagesWords) (from to : ℕ)
     → listed_upto reader.writer to messages ≡ listed_upto reader.writer from messages
     → fold (offered seat receipt reader.writer) fed (take to (listed messages)) ≡ fold (offered seat receipt reader.writer) fed (take from (listed messages))
 offered-passed seat receipt reader fed messages from to passed =
     offered-all seat receipt reader fed (take to (listed messages))
-    ∙ ap (λ (own : List (ℕ × List ℕ)). fold (fed_on seat receipt) fed (map (λ (part : ℕ × List ℕ). Message part.1) own)) passed
+    ∙ ap (λ (own : List (ℕ × List ℕ)). fold (account_on seat receipt) fed (map (λ (part : ℕ × List ℕ). Message part.1) own)) passed
     ∙ sym (offered-all seat receipt reader fed (take from (listed messages)))
 
 -- so it has been given nothing where all before are
-pub unfed-passed : (seat : Seat) (receipt : Receipt) (reader : ReaderPart) (value : MemberValue) (messages : MessagesWords) (to : ℕ) (member : Member) (tally : Tally)
-    → listed_upto reader.writer to messages ≡ listed_upto reader.writer 0 messages → IsMemberOf seat value member → tally.matched ≡ 0 → tally.bad ≡ 0
-    → IsFed seat (fold (offered seat receipt reader.writer) (unfed value) (take to (listed messages))) member tally
-unfed-passed seat receipt reader value messages to member tally passed is matched bad =
-    subst (λ (fed : Fed). IsFed seat fed member tally) (sym (offered-passed seat receipt reader (unfed value) messages 0 to passed))
-    (record { member_is = is; matched = matched; bad = bad })
+pub unfed-passed : (seat : Seat) (receipt : Receipt) (reader : ReaderPart) (value : MemberValue) (messages : MessagesWords) (to : ℕ) (member : Member) (account : Account)
+    → listed_upto reader.writer to messages ≡ listed_upto reader.writer 0 messages → IsFed seat (no_account value) member account
+    → IsFed seat (fold (offered seat receipt reader.writer) (no_account value) (take to (listed messages))) member account
+unfed-passed seat receipt reader value messages to member account passed is =
+    subst (λ (fed : AccountValue). IsFed seat fed member account) (sym (offered-passed seat receipt reader (no_account value) messages 0 to passed)) is
 
 -- ---- one message
 
@@ -125,16 +127,12 @@ pub passed-other : (writer : ℕ) (messages : MessagesWords) (index id : ℕ) �
 passed-other writer messages index id count within id_is other = passed-more writer messages index id count within id_is (not-same id writer other)
 
 -- a message of the reader's writer is given to it
-pub offered-own : (seat : Seat) (receipt : Receipt) (writer id : ℕ) (fed : Fed) (part : ℕ × List ℕ) (bytes : List ℕ) (member : Member) (old tally : Tally) (is_bad : Bool)
-    → part.0 ≡ id → id ≡ writer → part.1 ≡ bytes → old.matched ≡ fed.matched → old.bad ≡ fed.bad → Follows seat (piece_case seat receipt fed.member (Message bytes)) member is_bad
-    → tally.matched ≡ old.matched + 1 → tally.bad ≡ old.bad + count_if is_bad
-    → IsFed seat (fed_if seat receipt (part.0 == writer) fed (Message part.1)) member tally
-offered-own seat receipt writer id fed part bytes member old tally is_bad is own bytes_are matched bad follows counted counted_bad =
+pub offered-own : (seat : Seat) (receipt : Receipt) (writer id : ℕ) (fed : AccountValue) (part : ℕ × List ℕ) (bytes : List ℕ) (old : Member) (member : Member) (before account : Account) (outcome : PartOutcome)
+    → part.0 ≡ id → id ≡ writer → part.1 ≡ bytes → IsFed seat fed old before
+    → Follows seat (piece_case seat receipt fed.fed.member (Message bytes)).0 (piece_outcome seat receipt fed.fed.member (Message bytes)) member outcome → Counts before account outcome
+    → IsFed seat (account_if seat receipt (part.0 == writer) fed (Message part.1)) member account
+offered-own seat receipt writer id fed part bytes old member before account outcome is own bytes_are h follows counts =
     let own_is : (part.0 == writer) ≡ true = ap (λ (n : ℕ). n == writer) is ∙ same_eqb id writer own in
-    let here : IsFed seat (fed_on seat receipt fed (Message bytes)) member tally = record {
-      member_is = follows.0;
-      matched = counted ∙ ap (λ (n : ℕ). n + 1) matched;
-      bad = counted_bad ∙ ap (λ (n : ℕ). n + count_if is_bad) bad ∙ ap (λ (b : Bool). fed.bad + count_if b) follows.1;
-    } in
-    subst (λ (b : Bool). IsFed seat (fed_if seat receipt b fed (Message part.1)) member tally) (sym own_is)
-    (subst (λ (l : List ℕ). IsFed seat (fed_on seat receipt fed (Message l)) member tally) (sym bytes_are) here)
+    let here : IsFed seat (account_on seat receipt fed (Message bytes)) member account = more-fed seat receipt fed (Message bytes) old member outcome before account follows counts h in
+    subst (λ (b : Bool). IsFed seat (account_if seat receipt b fed (Message part.1)) member account) (sym own_is)
+    (subst (λ (l : List ℕ). IsFed seat (account_on seat receipt fed (Message l)) member account) (sym bytes_are) here)

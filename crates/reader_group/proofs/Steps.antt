@@ -61,20 +61,29 @@ pub verdict-is : (setting : Setting) (plain : PlainGroup) (datagram bytes : List
     → verdict_in setting plain datagram ≡ Ok (opened_of setting.group begun room bytes)
 verdict-is setting plain datagram bytes guard begun room opens setup = ap (λ (s : Setup). verdict setting.group s plain.accepted datagram) (sym setup) ∙ opens
 
+-- what is made of a datagram's receipt and payload, and of whether it raises the token, is made of those of the reading
+pub brought-as : {A : Type 0} (f : Receipt → Bool → Payload → A) (setting : Setting) (plain : PlainGroup) (now : ℕ) (on : List Bool) (datagram bytes : List ℕ) (guard after : Guard) (members new : List Member)
+    (begun : Begun) (room : Buffers) (raised : Bool) (receipt : Receipt) (payload : Payload) (tally : Tally)
+    → IsTaken setting plain now on datagram bytes guard after members new begun room raised receipt payload tally
+    → f receipt raised payload
+    ≡ f (receipt_of setting now (opened_of setting.group begun room bytes)) (is_raised setting plain.accepted (opened_of setting.group begun room bytes)) (opened_of setting.group begun room bytes).payload
+brought-as f setting plain now on datagram bytes guard after members new begun room raised receipt payload tally h =
+    let opened = opened_of setting.group begun room bytes in
+    let mode : (setup_of guard).mode ≡ setting.setup.mode = ap (λ (s : Setup). s.mode) h.setup in
+    let receipts : receipt ≡ receipt_of setting now opened =
+    h.receipt_is ∙ ap (λ (m : Mode). receipt_with now (stamp_by m begun.pass.number)) (sym h.mode) in
+    let raises_it : raised ≡ is_raised setting plain.accepted opened = h.raised_is ∙ ap (λ (m : Mode). is_secured m && raises plain.accepted begun.pass.token) mode in
+    ap (λ (r : Receipt). f r raised payload) receipts
+    ∙ ap (λ (b : Bool). f (receipt_of setting now opened) b payload) raises_it
+    ∙ ap (f (receipt_of setting now opened) (is_raised setting plain.accepted opened)) h.held
+
 -- all readers with what it brought them
 feds-are : (setting : Setting) (plain : PlainGroup) (now : ℕ) (on : List Bool) (datagram bytes : List ℕ) (guard after : Guard) (members new : List Member)
     (begun : Begun) (room : Buffers) (raised : Bool) (receipt : Receipt) (payload : Payload) (tally : Tally)
     → IsTaken setting plain now on datagram bytes guard after members new begun room raised receipt payload tally
     → all_fed setting.seats plain.members receipt raised on payload ≡ feds setting plain now on (opened_of setting.group begun room bytes)
 feds-are setting plain now on datagram bytes guard after members new begun room raised receipt payload tally h =
-    let opened = opened_of setting.group begun room bytes in
-    let mode : (setup_of guard).mode ≡ setting.setup.mode = ap (λ (s : Setup). s.mode) h.setup in
-    let receipts : receipt ≡ receipt_of setting now opened =
-    h.receipt_is ∙ ap (λ (m : Mode). receipt_with now (stamp_by m begun.pass.number)) (sym h.mode) in
-    let raises_it : raised ≡ is_raised setting plain.accepted opened = h.raised_is ∙ ap (λ (m : Mode). is_secured m && raises plain.accepted begun.pass.token) mode in
-    ap (λ (r : Receipt). all_fed setting.seats plain.members r raised on payload) receipts
-    ∙ ap (λ (b : Bool). all_fed setting.seats plain.members (receipt_of setting now opened) b on payload) raises_it
-    ∙ ap (λ (p : Payload). all_fed setting.seats plain.members (receipt_of setting now opened) (is_raised setting plain.accepted opened) on p) h.held
+    brought-as (λ (r : Receipt) (b : Bool) (p : Payload). all_fed setting.seats plain.members r b on p) setting plain now on datagram bytes guard after members new begun room raised receipt payload tally h
 
 pub taken-step : (setting : Setting) (plain : PlainGroup) (now : ℕ) (on : List Bool) (datagram bytes : List ℕ) (guard after : Guard) (members new : List Member)
     (begun : Begun) (room : Buffers) (raised : Bool) (receipt : Receipt) (payload : Payload) (tally : Tally) (group : ReaderGroup)

@@ -1,29 +1,60 @@
 -- A reader is given the parts of a datagram.
-use Rattle.std.proofs.Common.{◌≡◌, ap, ◌∙◌, arith, ℕ, ◌+◌, Bool, true, List}
+use Rattle.std.proofs.Common.{◌≡◌, refl, sym, ap, ◌∙◌, arith, ℕ, ◌+◌, Bool, true, List, None}
 use Rattle.std.specs.Prelude.{◌==◌, fold}
 use Rattle.std.proofs.lemmas.Bool.Decides.{nat_tests}
 use Rattle.ps_config.specs.declared.parts.ReaderPart.{ReaderPart}
+use Rattle.reader_group.specs.declared.account.Account.{Account}
 use Rattle.reader_group.specs.declared.member.Member.{Member}
+use Rattle.reader_group.specs.declared.notice.PartOutcome.{PartOutcome}
 use Rattle.reader_group.specs.declared.receipt.Receipt.{Receipt}
-use Rattle.reader_group.specs.declared.tally.Tally.{Tally}
 use Rattle.reader_group.specs.Members.{Seat, MemberValue}
-use Rattle.reader_group.specs.MemberWords.{Follows, IsFed}
+use Rattle.reader_group.specs.MemberWords.{Follows, IsFed, IsMemberOf}
+use Rattle.reader_group.specs.Notices.{AccountValue, account_on, fault_on, is_bad, major_on, no_account, piece_outcome}
 use Rattle.reader_group.specs.Payloads.{Piece, Chunked, Chunk, pieces}
-use Rattle.reader_group.specs.Plain.{unfed, fed_on, count_if, piece_case}
+use Rattle.reader_group.specs.Plain.{count_if, piece_case}
+use Rattle.reader_group.proofs.Outcomes.{piece-bad}
 
--- the one part
-pub one-fed : (seat : Seat) (receipt : Receipt) (member : MemberValue) (piece : Piece) (new : Member) (is_bad : Bool) (tally : Tally)
-    → tally.matched ≡ 1 → tally.bad ≡ count_if is_bad → Follows seat (piece_case seat receipt member piece) new is_bad → IsFed seat (fed_on seat receipt (unfed member) piece) new tally
-one-fed seat receipt member piece new is_bad tally matched bad follows =
-    let found : tally.bad ≡ count_if (piece_case seat receipt member piece).1 = bad ∙ ap count_if follows.1 in
-    let bad_is : tally.bad ≡ 0 + count_if (piece_case seat receipt member piece).1 = omega (arith, found) in record {
+-- before any part
+abbrev none : Account
+none = record { tally = record { matched = 0; bad = 0 }; fault = None; major = None }
+
+-- what counting one part more ensures
+pub record Counts (old new : Account) (outcome : PartOutcome) : Type 0 where
+  pub matched : new.tally.matched ≡ old.tally.matched + 1
+  pub bad : new.tally.bad ≡ old.tally.bad + count_if (is_bad outcome)
+  pub fault : new.fault ≡ fault_on outcome old.fault
+  pub major : new.major ≡ major_on outcome old.major
+
+-- one part more
+pub more-fed : (seat : Seat) (receipt : Receipt) (value : AccountValue) (piece : Piece) (old : Member) (new : Member) (outcome : PartOutcome) (before after : Account)
+    → Follows seat (piece_case seat receipt value.fed.member piece).0 (piece_outcome seat receipt value.fed.member piece) new outcome → Counts before after outcome → IsFed seat value old before
+    → IsFed seat (account_on seat receipt value piece) new after
+more-fed seat receipt value piece old new outcome before after follows counts h =
+    let is = follows.1 in
+    let bad : is_bad outcome ≡ (piece_case seat receipt value.fed.member piece).1 = ap is_bad is ∙ sym (piece-bad seat receipt value.fed.member piece) in
+    record {
       member_is = follows.0;
-      matched = matched;
-      bad = bad_is;
+      matched = counts.matched ∙ ap (λ (n : ℕ). n + 1) h.matched;
+      accounts = record {
+        bad = counts.bad ∙ ap (λ (n : ℕ). n + count_if (is_bad outcome)) h.accounts.bad ∙ ap (λ (b : Bool). value.fed.bad + count_if b) bad;
+        fault = counts.fault ∙ ap (fault_on outcome) h.accounts.fault ∙ ap (λ (o : PartOutcome). fault_on o value.fault) is;
+        major = counts.major ∙ ap (major_on outcome) h.accounts.major ∙ ap (λ (o : PartOutcome). major_on o value.major) is;
+      };
     }
 
+-- the one part
+pub one-fed : (seat : Seat) (receipt : Receipt) (member : MemberValue) (piece : Piece) (old new : Member) (outcome : PartOutcome) (account : Account) → IsMemberOf seat member old
+    → Follows seat (piece_case seat receipt member piece).0 (piece_outcome seat receipt member piece) new outcome
+    → account.tally.matched ≡ 1 → account.tally.bad ≡ count_if (is_bad outcome) → account.fault ≡ fault_on outcome None → account.major ≡ major_on outcome None
+    → IsFed seat (account_on seat receipt (no_account member) piece) new account
+one-fed seat receipt member piece old new outcome account h follows matched bad fault major =
+    let bad_is : account.tally.bad ≡ 0 + count_if (is_bad outcome) = omega (arith, bad) in
+    more-fed seat receipt (no_account member) piece old new outcome none account follows (record { matched = matched; bad = bad_is; fault = fault; major = major })
+    (record { member_is = h; matched = refl; accounts = record { bad = refl; fault = refl; major = refl } })
+
 -- a chunk for the reader of this writer
-pub own-chunk : (seat : Seat) (receipt : Receipt) (member : MemberValue) (reader : ReaderPart) (writer : ℕ) (bytes : List ℕ) (new : Member) (tally : Tally) → writer ≡ reader.writer
-    → IsFed seat (fed_on seat receipt (unfed member) (Chunked bytes)) new tally → IsFed seat (fold (fed_on seat receipt) (unfed member) (pieces reader (Chunk writer bytes))) new tally
-own-chunk seat receipt member reader writer bytes new tally own h =
+pub own-chunk : (seat : Seat) (receipt : Receipt) (member : MemberValue) (reader : ReaderPart) (writer : ℕ) (bytes : List ℕ) (new : Member) (account : Account) → writer ≡ reader.writer
+    → IsFed seat (account_on seat receipt (no_account member) (Chunked bytes)) new account
+    → IsFed seat (fold (account_on seat receipt) (no_account member) (pieces reader (Chunk writer bytes))) new account
+own-chunk seat receipt member reader writer bytes new account own h =
     let is : (writer == reader.writer) ≡ true = grind (arith, nat_tests) in rw is h

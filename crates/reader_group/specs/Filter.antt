@@ -1,6 +1,8 @@
 -- Whose datagrams a read group takes: its filter (OPC 10000-14 6.2.9.1, PublisherId, WriterGroupId and GroupVersion of a DataSetReader; DataSetClassId).
-use Rattle.std.specs.Prelude.{ℕ, List, Bool, true, false, ◌&&◌, ◌||◌, ◌==◌, bytes_eq, Option, Some, None}
+use Rattle.std.specs.Prelude.{ℕ, List, Bool, true, false, ◌&&◌, ◌||◌, ◌==◌, bytes_eq, Option, Some, None, Result, Ok, Err}
+use Rattle.uadp_header.specs.declared.fault.HeaderFault.{HeaderFault}
 use Rattle.uadp_header.specs.Headers.{PublisherValue, U8, U16, U32, U64, Text, HeaderValue}
+use Rattle.uadp_header.specs.Layout.{header_at}
 use Rattle.config_tables.specs.declared.publisher.Publisher.{Publisher}
 use Rattle.config_tables.specs.declared.publisher.Publisher.TheVariants as publisher
 use Rattle.ps_config.specs.declared.parts.ReadGroupPart.{ReadGroupPart}
@@ -36,3 +38,11 @@ abbrev pub is_ours : ReadGroupPart → HeaderValue → Bool
 is_ours group header =
     is_publisher group.publisher header.publisher && is_any_or group.group header.group
     && is_any_or group.version header.version && has_class group.class_id header.class_id
+
+-- what was read carries the NetworkMessageNumber that is asked for; a header that can't be read isn't another's
+abbrev pub is_of_number : ℕ → Result (HeaderValue × List ℕ) HeaderFault → Bool
+is_of_number asked (Err fault) = true
+is_of_number asked (Ok read) = is_any_or asked read.0.message_number
+
+abbrev pub takes_number : ℕ → List ℕ → Bool
+takes_number asked datagram = is_of_number asked (header_at datagram)

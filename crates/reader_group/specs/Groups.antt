@@ -1,5 +1,5 @@
 -- Which read group in memory has the plain reading of what befell it.
-use Rattle.std.specs.Prelude.{◌≡◌, ℕ, ◌<◌, Bool, List, length, map, sum_by, slice_set, slice_index_or, Result}
+use Rattle.std.specs.Prelude.{◌≡◌, ℕ, ◌<◌, Bool, true, false, List, length, map, replicate, sum_by, slice_set, slice_index_or, Option, Result, Err}
 use Rattle.std.specs.List.{HoldsAt}
 use Rattle.dataset_reader.specs.declared.reader.Reader.{Reader}
 use Rattle.dataset_reader.specs.Reader.{IsReaderOf, kept_by, passed_of}
@@ -9,17 +9,22 @@ use Rattle.message_guard.specs.Guards.{IsGuardOf, setup_of}
 use Rattle.ps_config.specs.declared.parts.Config.{Config}
 use Rattle.ps_config.specs.declared.parts.ReadGroupPart.{ReadGroupPart}
 use Rattle.ps_config.specs.Sound.{IsSound}
+use Rattle.receive_timer.specs.Told.{TellsDue}
 use Rattle.reader_group.specs.declared.member.Member.{Member}
 use Rattle.reader_group.specs.declared.group.ReaderGroup.{ReaderGroup}
+use Rattle.reader_group.specs.declared.notice.Notice.{Notice}
 use Rattle.reader_group.specs.declared.receipt.Receipt.{Receipt}
 use Rattle.reader_group.specs.declared.refusal.Refusal.{Refusal}
+use Rattle.reader_group.specs.declared.refusal.Refusal.TheVariants.{NotOurs}
+use Rattle.reader_group.specs.declared.refused.Refused.{Refused}
 use Rattle.reader_group.specs.declared.refusal.Taken.{Taken}
 use Rattle.reader_group.specs.declared.tally.Tally.{Tally}
-use Rattle.reader_group.specs.Members.{Seat, MemberValue, seat_at}
+use Rattle.reader_group.specs.Members.{Seat, MemberValue, seat_at, is_fresh}
 use Rattle.reader_group.specs.MemberWords.{IsMemberOf, HoldsRowsOf}
+use Rattle.reader_group.specs.Notices.{account_by, no_notice, notice_at, noticed_as, noticed_on}
 use Rattle.reader_group.specs.Payloads.{Payload}
 use Rattle.reader_group.specs.Opening.{bytes_left}
-use Rattle.reader_group.specs.Plain.{Setting, PlainGroup, Event, Fed, all_fed, answer, member_at, opening, step, with_keys}
+use Rattle.reader_group.specs.Plain.{Setting, PlainGroup, Event, Fed, all_fed, answer, member_at, opening, Got, step, verdict_in, with_keys}
 use Rattle.reader_group.specs.Settings.{setting_by, setting_of}
 
 abbrev pub index_of : ReaderGroup → ℕ
@@ -30,6 +35,14 @@ guard_of group = group.guard
 
 abbrev pub members_of : ReaderGroup → List Member
 members_of group = group.members.items
+
+-- what it refused, beside its plain reading
+abbrev pub refused_of : ReaderGroup → Refused
+refused_of group = group.refused
+
+-- what is noted of its readers, beside its plain reading
+abbrev pub notices_of : ReaderGroup → List Notice
+notices_of group = group.notices
 
 abbrev pub reader_count : ReaderGroup → ℕ
 reader_count group = length (members_of group)
@@ -75,6 +88,13 @@ AreTallied seats receipt raised on payload old tally =
     (values : List MemberValue) → AreMembers seats values old
     → IsTallyOf tally (all_fed seats values receipt raised on payload)
 
+-- what is noted of the readers is what the plain reading of a datagram with this payload has of their parts
+abbrev pub AreNotedBy : List Seat → Receipt → Bool → List Bool → Payload → List Member → List Notice → List Notice → Type 0
+AreNotedBy seats receipt raised on payload members old new =
+    (values : List MemberValue) → AreMembers seats values members
+    → (k : ℕ) → k < length seats
+    → notice_at new k ≡ noticed_as (account_by (seat_at seats k) receipt raised (slice_index_or on k false) payload (member_at values k)) (notice_at old k)
+
 -- the group is where its plain reading is, with the setting's keys
 pub record Stands (setting : Setting) (plain : PlainGroup) (group : ReaderGroup) : Type 0 where
   pub setup : setup_of (guard_of group) ≡ setting.setup
@@ -112,12 +132,40 @@ IsAnswer config group now on datagram result =
     (keys : List TokenKeys) (plain : PlainGroup) → Stands (setting_with config group keys) plain group
     → result ≡ answer (setting_with config group keys) plain now on datagram
 
+-- a datagram brings the notices of a group of this configuration what its plain reading has of each reader's parts
+abbrev pub AreNoticed : Config → ReaderGroup → ℕ → List Bool → List ℕ → ReaderGroup → Type 0
+AreNoticed config old now on datagram new =
+    (keys : List TokenKeys) (plain : PlainGroup) → Stands (setting_with config old keys) plain old →
+    let setting = setting_with config old keys in
+    (k : ℕ) → k < length setting.seats
+    → notice_at (notices_of new) k ≡ noticed_on setting plain now on k (verdict_in setting plain datagram) (notice_at (notices_of old) k)
+
 -- what is left of the bytes of a datagram, by the group's plain reading
 abbrev pub AreLeft : Config → ReaderGroup → List ℕ → List ℕ → Type 0
 AreLeft config group datagram bytes =
     (keys : List TokenKeys) (plain : PlainGroup) → Stands (setting_with config group keys) plain group →
     let setting = setting_with config group keys in
     bytes ≡ bytes_left setting.group setting.setup plain.accepted datagram
+
+-- a datagram takes a group of this configuration on, is answered, leaves its bytes and is noted as the plain reading has it
+pub record HadDatagram (config : Config) (old new : ReaderGroup) (now : ℕ) (on : List Bool) (datagram bytes : List ℕ) (result : Result Taken Refusal) : Type 0 where
+  pub step : StepsBy config (Got now on datagram) old new
+  pub answer : IsAnswer config old now on datagram result
+  pub bytes_left : AreLeft config old datagram bytes
+  pub notices : AreNoticed config old now on datagram new
+
+-- a datagram is refused as another's, and all that the plain reading has of the group stays, and so do the bytes
+pub record PassedDatagram (old new : ReaderGroup) (datagram bytes : List ℕ) (result : Result Taken Refusal) : Type 0 where
+  pub answer : result ≡ Err NotOurs
+  pub guard : guard_of new ≡ guard_of old
+  pub members : members_of new ≡ members_of old
+  pub notices : notices_of new ≡ notices_of old
+  pub bytes_stay : bytes ≡ datagram
+
+-- where it is to be had
+abbrev pub HadIf : Bool → Config → ReaderGroup → ReaderGroup → ℕ → List Bool → List ℕ → List ℕ → Result Taken Refusal → Type 0
+HadIf true config old new now on datagram bytes result = HadDatagram config old new now on datagram bytes result
+HadIf false config old new now on datagram bytes result = PassedDatagram old new datagram bytes result
 
 -- a ring with these keys renews a group: its plain reading stays, and goes on with the keys
 abbrev pub GoesOnWith : List TokenKeys → ReaderGroup → ReaderGroup → Type 0
@@ -154,6 +202,24 @@ IsReadyAt group index ready =
     (setting : Setting) (plain : PlainGroup) → Stands setting plain group
     → ready ≡ (member_at plain.members index).ready
 
+-- when the row of the reader at this index was confirmed is what the plain reading has
+abbrev pub IsConfirmedAt : ReaderGroup → ℕ → Option ℕ → Type 0
+IsConfirmedAt group index confirmed =
+    (setting : Setting) (plain : PlainGroup) → Stands setting plain group
+    → confirmed ≡ (member_at plain.members index).confirmed
+
+-- whether the row of the reader at this index is fresh is what the plain reading has
+abbrev pub IsFreshAt : ReaderGroup → ℕ → ℕ → ℕ → Bool → Type 0
+IsFreshAt group index now bound fresh =
+    (setting : Setting) (plain : PlainGroup) → Stands setting plain group
+    → fresh ≡ is_fresh now bound (member_at plain.members index).confirmed
+
+-- the moment from which on the reader at this index times out is what the plain reading has
+abbrev pub IsDueAt : ReaderGroup → ℕ → Option ℕ → Type 0
+IsDueAt group index moment =
+    (setting : Setting) (plain : PlainGroup) → Stands setting plain group
+    → TellsDue (seat_at setting.seats index).part.timeout (member_at plain.members index).told moment
+
 -- the readers of a read group of any configuration, before anything
 abbrev pub AreNew : ReadGroupPart → List Member → Type 0
 AreNew group members =
@@ -162,3 +228,7 @@ AreNew group members =
 -- the readers of a read group of any configuration hold rows of their metas alone
 abbrev pub AreReadersOf : ReadGroupPart → List Member → Type 0
 AreReadersOf group members = (config : Config) → AreReaders (setting_by config group).seats members
+
+-- nothing is noted of any reader
+abbrev pub no_notices : List Notice
+no_notices = replicate 16 no_notice

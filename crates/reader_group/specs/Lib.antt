@@ -4,6 +4,8 @@ pub mod SlotFrames
 pub mod Payloads
 pub mod Opening
 pub mod Plain
+pub mod Refused
+pub mod Notices
 pub mod Held
 pub mod MemberWords
 pub mod Begun
@@ -11,6 +13,7 @@ pub mod Settings
 pub mod Groups
 pub mod Traces
 pub mod Complete
+pub mod Confirmed
 pub mod Arrivals
 pub mod Agreeing
 pub mod BadParts

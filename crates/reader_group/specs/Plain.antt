@@ -28,7 +28,7 @@ use Rattle.ps_config.specs.declared.parts.ReadGroupPart.{ReadGroupPart}
 use Rattle.reader_group.specs.declared.receipt.Receipt.{Receipt}
 use Rattle.reader_group.specs.declared.refusal.Refusal.{Refusal}
 use Rattle.reader_group.specs.declared.refusal.Taken.{Taken}
-use Rattle.reader_group.specs.Members.{Seat, seat_at, MemberValue, new_member, cut_member, stopped, expired, noted, numbering_of}
+use Rattle.reader_group.specs.Members.{Seat, seat_at, MemberValue, new_member, cut_member, stopped, expired, noted, confirmed_by, numbering_of}
 use Rattle.reader_group.specs.SlotFrames.{slot_frame_at}
 use Rattle.reader_group.specs.Payloads.{Payload, Piece, Message, Chunked, Slotted, Missing, pieces, part_count}
 use Rattle.reader_group.specs.Opening.{Opened, verdict}
@@ -47,10 +47,14 @@ taken_in member taken = record member { kept = taken.0; passed = counted member.
 abbrev pub after_took : ℕ → MemberValue → Kept × Took → MemberValue
 after_took now member taken = noted now taken.1.outcome (taken_in member taken)
 
+-- the same, where the frame carried this number: it may confirm the row
+abbrev pub given_took : ℕ → Option ℕ → MemberValue → Kept × Took → MemberValue
+given_took now carried member taken = confirmed_by now taken.1.outcome carried (after_took now member taken)
+
 -- the reader is given a frame
 abbrev pub given : Seat → Receipt → MemberValue → Frame → MemberValue
 given seat receipt member frame =
-    after_took receipt.moment member
+    given_took receipt.moment (short frame).number member
     (frame_case (numbering_of seat.part.numbering) seat.meta.major member.kept (short frame) receipt.stamp)
 
 -- the reader is given what was read; what couldn't be read is bad, and leaves it
@@ -99,11 +103,6 @@ abbrev pub fed_on : Seat → Receipt → Fed → Piece → Fed
 fed_on seat receipt fed piece =
     let after = piece_case seat receipt fed.member piece in
     record { member = after.0; matched = fed.matched + 1; bad = fed.bad + count_if after.1 }
-
--- a part that is the reader's, or isn't
-abbrev pub fed_if : Seat → Receipt → Bool → Fed → Piece → Fed
-fed_if seat receipt true fed piece = fed_on seat receipt fed piece
-fed_if seat receipt false fed piece = fed
 
 abbrev pub cut_if : Bool → Why → MemberValue → MemberValue
 cut_if true why member = cut_member why member

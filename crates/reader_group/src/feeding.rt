@@ -4,13 +4,16 @@ ghost use Rattle.std.specs.List.{HoldsAt};
 ghost use Rattle.ps_config.specs.Sound.{IsSound};
 ghost use Rattle.reader_group.specs.Members.{seat_of, stopped, expired};
 ghost use Rattle.reader_group.specs.Settings.{setting_by};
-ghost use Rattle.reader_group.specs.Groups.{AreReaders, AllBecome, AreFedBy, AreTallied, KeepReaders, ChangesAt};
-ghost use Rattle.reader_group.specs.MemberWords.{HoldsRowsOf, BecomesAt, IsFedAt, IsTalliedAt, KeepsRowsAt};
+ghost use Rattle.reader_group.specs.Groups.{AreReaders, AllBecome, AreFedBy, AreNotedBy, AreTallied, KeepReaders, ChangesAt};
+ghost use Rattle.reader_group.specs.MemberWords.{HoldsRowsOf, BecomesAt, IsFedAt, IsAccountAt, IsTalliedAt, KeepsRowsAt};
 ghost use Rattle.reader_group.specs.Held.{payload_in};
+ghost use Rattle.reader_group.specs.Notices.{IsNotedAt};
 ghost use Rattle.reader_group.specs.Payloads.{part_count};
 ghost use Rattle.reader_group.specs.Plain.{all_expired, one_stopped};
 
+use crate::account::Account;
 use crate::member::Member;
+use crate::notice::Notice;
 use crate::payload::Payload;
 use crate::receipt::Receipt;
 use crate::tally::Tally;
@@ -21,6 +24,7 @@ use pubsub_model::Why;
 /// Each reader gets what the datagram brings it.
 pub(crate) fn feed_all(
     members: &mut [Member],
+    notices: &mut [Notice],
     config: &Config,
     group: &ReadGroupPart,
     receipt: &Receipt,
@@ -32,10 +36,14 @@ pub(crate) fn feed_all(
     requires group { Contains config.now.readgroup group.now }
     requires readers { AreReaders (setting_by config.now group.now).seats members.old }
     requires on { length on.now ≡ length members.old }
+    requires notices { length members.old ≤ length notices.old }
     ensures members { AreFedBy (setting_by config.now group.now).seats receipt.now raised on.now
         (payload_in payload.now) members.old members.new }
     ensures tally { AreTallied (setting_by config.now group.now).seats receipt.now raised on.now
         (payload_in payload.now) members.old result }
+    ensures notices { AreNotedBy (setting_by config.now group.now).seats receipt.now raised on.now
+        (payload_in payload.now) members.old notices.old notices.new }
+    ensures count { length notices.new ≡ length notices.old }
     ensures readers { AreReaders (setting_by config.now group.now).seats members.new }
 {
     let mut tally = Tally::NONE;
@@ -43,12 +51,20 @@ pub(crate) fn feed_all(
         let reader = reader_at(group, index);
         let meta = meta_at(config, reader.dataset);
         let enabled = is_on(on, index);
-        let fed = feed_at(
+        let account = feed_at(
             members, index, reader, meta, receipt, raised, enabled, payload,
         );
-        tally.add(&fed);
+        tally.add(&account.tally);
+        note_at(notices, index, &account);
     }
     tally
+}
+
+fn note_at(notices: &mut [Notice], index: usize, account: &Account)
+    requires { index < length notices.old }
+    ensures { IsNotedAt index account.now notices.old notices.new }
+{
+    notices[index].note(account);
 }
 
 fn reader_at(group: &ReadGroupPart, index: usize) -> &ReaderPart
@@ -82,18 +98,20 @@ fn feed_at(
     raised: bool,
     enabled: bool,
     payload: &Payload<'_>,
-) -> Tally
+) -> Account
     requires index { index < length members.old }
     requires reader { HoldsAt (HoldsRowsOf meta.now) members.old index }
     ensures member { IsFedAt (seat_of part.now meta.now) receipt.now raised enabled
         (payload_in payload.now) index members.old members.new }
     ensures tally { IsTalliedAt (seat_of part.now meta.now) receipt.now raised enabled
+        (payload_in payload.now) index members.old result.tally }
+    ensures account { IsAccountAt (seat_of part.now meta.now) receipt.now raised enabled
         (payload_in payload.now) index members.old result }
     ensures reader { HoldsAt (HoldsRowsOf meta.now) members.new index }
     ensures others { ChangesAt index members.old members.new }
     ensures count { length members.new ≡ length members.old }
-    ensures matched { result.matched ≤ 255 }
-    ensures bad { result.bad ≤ 255 }
+    ensures matched { result.tally.matched ≤ 255 }
+    ensures bad { result.tally.bad ≤ 255 }
 {
     let member = &mut members[index];
     member.feed(part, meta, receipt, raised, enabled, payload)

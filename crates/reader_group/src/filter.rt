@@ -1,10 +1,10 @@
 //! Whose datagrams a read group takes.
 ghost use Rattle.std.specs.Prelude.{◌≡◌};
 ghost use Rattle.uadp_header.specs.Headers.{publisher_in, header_in, if_there};
-ghost use Rattle.reader_group.specs.Filter.{is_same_publisher, is_publisher, is_any_or, has_class, is_ours};
+ghost use Rattle.reader_group.specs.Filter.{is_same_publisher, is_publisher, is_any_or, has_class, is_ours, takes_number};
 
 use ps_config::{Publisher, ReadGroupPart};
-use uadp_header::{Header, PublisherId};
+use uadp_header::{Header, PublisherId, read_header};
 
 /// Whether the publisher, the group, its version and the class id are those that the read group asks for.
 pub(crate) fn is_ours(group: &ReadGroupPart, header: &Header<'_>) -> bool
@@ -42,6 +42,19 @@ fn is_group(asked: u16, carried: Option<u16>) -> bool
     ensures { result ≡ is_any_or asked carried }
 {
     asked == 0 || carried == Some(asked)
+}
+
+/// Whether the header carries this NetworkMessageNumber, where it can be read. 0 asks for any, also for none.
+pub(crate) fn takes_number(asked: u16, datagram: &[u8]) -> bool
+    ensures { result ≡ takes_number asked datagram.now }
+{
+    if asked == 0 {
+        return true;
+    }
+    match read_header(datagram) {
+        Ok((header, _)) => header.message_number == Some(asked),
+        Err(_) => true,
+    }
 }
 
 fn is_version(asked: u32, carried: Option<u32>) -> bool

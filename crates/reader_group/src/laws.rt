@@ -6,6 +6,7 @@ ghost use Rattle.reader_group.specs.Arrivals.{Way, AreTold};
 ghost use Rattle.reader_group.specs.Asked.{HasOtherPublisher, HasOtherGroup, HasOtherVersion, HasOtherClass, RefusesOthers, PassesAsked};
 ghost use Rattle.reader_group.specs.BadParts.{BadPartsLeave};
 ghost use Rattle.reader_group.specs.Complete.{WholesAreHeld};
+ghost use Rattle.reader_group.specs.Confirmed.{RowsAreConfirmed};
 ghost use Rattle.reader_group.specs.Handing.{EachHandsOn, MessagesComeBack, EachChunkComesBack, EachSlotComesBack};
 ghost use Rattle.reader_group.specs.Numbered.{HaveNumbers, HaveTheirNumbers};
 ghost use Rattle.reader_group.specs.Plain.{Setting, PlainGroup, Event, opening, step};
@@ -64,6 +65,12 @@ pub fn each_held_row_has_its_number()
         → HaveNumbers setting group → HaveNumbers setting (step setting group event) }
     ensures renewed { (setting : Setting) (calls : List GroupCall)
         → HaveNumbers setting (reading setting calls) }
+{}
+
+/// In the plain reading a reader holds a row exactly where there is a moment at which its row was confirmed, and that is the moment
+/// at which one of the datagrams came.
+pub fn each_held_row_was_confirmed()
+    ensures { (setting : Setting) (events : List Event) → RowsAreConfirmed setting events }
 {}
 
 /// A part that can't be read leaves its reader, but for the message that chunks are joined to, and leaves that too where it is no

@@ -1,6 +1,6 @@
 //! What a read group keeps for one of its readers.
 ghost use Rattle.std.specs.Prelude.{◌≡◌};
-ghost use Rattle.reader_group.specs.Members.{numbering_of};
+ghost use Rattle.reader_group.specs.Members.{confirmed_on, names_last, numbering_of};
 
 use chunker::Joiner;
 use dataset_reader::{Numbering, Outcome, Reader};
@@ -19,6 +19,8 @@ pub(crate) struct Member {
     pub late: bool,
     /// Whether it held a row, with neither a timeout nor a cut by hand since.
     pub ready: bool,
+    /// The moment of the last message that was taken with none missing up to it, where a row is held.
+    pub confirmed: Option<u64>,
     /// What the next frame is read over: the last frame, or what a refused one left.
     pub frame: Frame,
 }
@@ -27,9 +29,10 @@ impl Member {
     ghost use Rattle.std.specs.Prelude.{◌≡◌};
     ghost use Rattle.dataset_meta.specs.Metas.{MetaData};
     ghost use Rattle.pubsub_model.specs.declared.reading.Why.TheVariants.{NewToken};
-    ghost use Rattle.reader_group.specs.Members.{seat_of, new_member, cut_member, stopped, expired, seen, noted};
+    ghost use Rattle.reader_group.specs.Members.{Seat, MemberValue, seat_of, new_member, cut_member, stopped, expired, seen, noted, confirmed_by};
+    ghost use Rattle.receive_timer.specs.Told.{TellsDue};
     ghost use Rattle.reader_group.specs.Plain.{cut_if};
-    ghost use Rattle.reader_group.specs.MemberWords.{IsMemberOf, HoldsRowsOf, Becomes};
+    ghost use Rattle.reader_group.specs.MemberWords.{IsMemberOf, HoldsRowsOf, Becomes, IsNoted};
 
     /// Before anything.
     pub fn new(part: &ReaderPart) -> Member
@@ -42,6 +45,7 @@ impl Member {
             timer: Timer::new(part.timeout),
             late: false,
             ready: false,
+            confirmed: None,
             frame: Frame {
                 number: None,
                 kind: FrameKind::Alive,
@@ -59,6 +63,7 @@ impl Member {
         self.reader.cut(why);
         self.joiner.clear();
         self.timer.clear();
+        self.confirmed = None;
     }
 
     /// A cut by hand.
@@ -93,8 +98,18 @@ impl Member {
         }
     }
 
-    /// What the timer and the flags make of the reader's answer to a message that came at this moment.
+    /// What the timer and the flags make of the reader's answer to the frame that is kept, which came at this moment.
     pub fn note(&mut self, now: u64, outcome: Outcome)
+        ensures member { IsNoted now outcome self.old self.new }
+        ensures reader { self.new.reader ≡ self.old.reader }
+        ensures frame { self.new.frame ≡ self.old.frame }
+    {
+        self.time(now, outcome);
+        self.confirm(now, outcome);
+    }
+
+    // Whether the message is seen, and the row ready.
+    fn time(&mut self, now: u64, outcome: Outcome)
         ensures member { Becomes (λ seat value. noted now outcome value) self.old self.new }
         ensures reader { self.new.reader ≡ self.old.reader }
         ensures frame { self.new.frame ≡ self.old.frame }
@@ -109,6 +124,25 @@ impl Member {
         }
     }
 
+    // When the row was confirmed, by the number that the frame carries and the row's.
+    fn confirm(&mut self, now: u64, outcome: Outcome)
+        ensures member { Becomes
+            (λ seat value. confirmed_by now outcome self.old.frame.number value) self.old self.new }
+        ensures reader { self.new.reader ≡ self.old.reader }
+        ensures frame { self.new.frame ≡ self.old.frame }
+    {
+        let held = self.reader.number();
+        self.confirmed = confirmed_on(now, outcome, self.frame.number, held, self.confirmed);
+    }
+
+    /// The moment from which on the reader times out, as long as no message comes.
+    pub fn due_from(&self) -> Option<u64>
+        ensures { (seat : Seat) (value : MemberValue) → IsMemberOf seat value self.now
+            → TellsDue seat.part.timeout value.told result }
+    {
+        self.timer.due_from()
+    }
+
     // A message came.
     fn see(&mut self, now: u64)
         ensures member { Becomes (λ seat value. seen now value) self.old self.new }
@@ -117,6 +151,40 @@ impl Member {
     {
         self.timer.seen(now);
         self.late = false;
+    }
+}
+
+// When the row was confirmed, where a message with the carried number was answered so, and the row has the held one.
+fn confirmed_on(
+    now: u64,
+    outcome: Outcome,
+    carried: Option<u16>,
+    held: Option<u16>,
+    before: Option<u64>,
+) -> Option<u64>
+    ensures { result ≡ confirmed_on now outcome carried held before }
+{
+    match outcome {
+        Outcome::Held => Some(now),
+        Outcome::Alive => {
+            if names_last(carried, held) {
+                Some(now)
+            } else {
+                before
+            }
+        }
+        Outcome::Waiting(_) => None,
+        Outcome::Older | Outcome::WrongMajor { .. } | Outcome::Unnumbered => before,
+    }
+}
+
+// Whether the number that a keep-alive carries is due after the held one.
+fn names_last(carried: Option<u16>, held: Option<u16>) -> bool
+    ensures { result ≡ names_last carried held }
+{
+    match (carried, held) {
+        (Some(next), Some(last)) => next == last.wrapping_add(1),
+        _ => false,
     }
 }
 

@@ -1,11 +1,12 @@
 //! A datagram is refused, or opened.
-ghost use Rattle.std.specs.Prelude.{◌≡◌, ◌≤◌, length, IfOk};
+ghost use Rattle.std.specs.Prelude.{◌≡◌, ◌≤◌, length, IfErr, IfOk};
 ghost use Rattle.message_guard.specs.Guards.{IsPassOf};
 ghost use Rattle.uadp_header.specs.Headers.{ListOf, ids_in};
 ghost use Rattle.uadp_header.specs.Spelling.{AreIds};
 ghost use Rattle.payload_layout.specs.Payloads.{IsWithin};
 ghost use Rattle.reader_group.specs.Begun.{ids_carried, FindsMessages, FindsListed, HasMessages, OpensBy, LeavesBytes, BeginsBy, LeavesRefused, payload_held};
 ghost use Rattle.reader_group.specs.Held.{payload_in};
+ghost use Rattle.reader_group.specs.Refused.{KeepsSender};
 
 use crate::begun::{Begun, Carried};
 use crate::filter::is_ours;
@@ -34,6 +35,7 @@ pub(crate) fn open(
 ) -> Result<Begun, Refusal>
     ensures verdict { OpensBy group.now guard.now bytes.old result room.new bytes.new }
     ensures bytes { LeavesBytes group.now guard.now bytes.old bytes.new }
+    ensures sender { IfErr result (KeepsSender bytes.old bytes.new) }
     ensures messages { IfOk result
         (λ begun. HasMessages group.now.layout begun room.new bytes.new) }
     ensures pass { IfOk result (λ begun. IsPassOf guard.now begun.pass) }

@@ -7,11 +7,12 @@ ghost use Rattle.fixed_layout.specs.Datagrams.{slot_of};
 ghost use Rattle.reader_group.specs.MemberWords.{IsLaidIn};
 ghost use Rattle.reader_group.specs.Payloads.{reader_slot};
 
+use crate::account::Account;
 use crate::member::Member;
+use crate::notice::{PartFault, PartOutcome};
 use crate::payload::{Messages, Payload};
 use crate::receipt::Receipt;
 use crate::slot_frame::read_slot_frame_into;
-use crate::tally::Tally;
 use chunker::{Joined, Joiner, read_chunk};
 use dataset_meta::Meta;
 use frame_codec::{FrameFault, read_frame_into};
@@ -37,19 +38,19 @@ impl Member {
         raised: bool,
         enabled: bool,
         payload: &Payload<'_>,
-    ) -> Tally
+    ) -> Account
         requires { HoldsRowsOf meta.now self.old }
         ensures fed { IsFedBy part.now meta.now receipt.now raised enabled (payload_in payload.now)
             self.old self.new result }
         ensures reader { HoldsRowsOf meta.now self.new }
-        ensures matched { result.matched ≤ 255 }
-        ensures bad { result.bad ≤ 255 }
+        ensures matched { result.tally.matched ≤ 255 }
+        ensures bad { result.tally.bad ≤ 255 }
     {
         self.cut_if_raised(raised);
         if enabled {
             self.take(part, meta, receipt, payload)
         } else {
-            Tally::NONE
+            Account::NONE
         }
     }
 
@@ -60,20 +61,20 @@ impl Member {
         meta: &Meta,
         receipt: &Receipt,
         payload: &Payload<'_>,
-    ) -> Tally
+    ) -> Account
         requires { HoldsRowsOf meta.now self.old }
         ensures fed { TakesParts part.now meta.now receipt.now (payload_in payload.now)
             self.old self.new result }
         ensures reader { HoldsRowsOf meta.now self.new }
-        ensures matched { result.matched ≤ 255 }
-        ensures bad { result.bad ≤ 255 }
+        ensures matched { result.tally.matched ≤ 255 }
+        ensures bad { result.tally.bad ≤ 255 }
     {
         match payload {
-            Payload::Slots(datagram) => Tally::of_one(self.slot(part, meta, receipt, datagram)),
+            Payload::Slots(datagram) => Account::of_one(self.slot(part, meta, receipt, datagram)),
             Payload::Chunk { writer, bytes } if *writer == part.writer => {
-                Tally::of_one(self.chunk(meta, receipt, bytes))
+                Account::of_one(self.chunk(meta, receipt, bytes))
             }
-            Payload::Chunk { .. } => Tally::NONE,
+            Payload::Chunk { .. } => Account::NONE,
             Payload::Messages(messages) => self.messages(part, meta, receipt, messages),
         }
     }
@@ -85,22 +86,22 @@ impl Member {
         meta: &Meta,
         receipt: &Receipt,
         messages: &Messages<'_>,
-    ) -> Tally
+    ) -> Account
         requires { HoldsRowsOf meta.now self.old }
         ensures fed { TakesParts part.now meta.now receipt.now (messages_in messages.now)
             self.old self.new result }
         ensures reader { HoldsRowsOf meta.now self.new }
-        ensures matched { result.matched ≤ 255 }
-        ensures bad { result.bad ≤ 255 }
+        ensures matched { result.tally.matched ≤ 255 }
+        ensures bad { result.tally.bad ≤ 255 }
     {
         let count = messages.parts.len();
-        let mut tally = Tally::NONE;
+        let mut account = Account::NONE;
         let mut index = messages.next_of(part.writer, 0);
         while index < count {
-            self.offer(part, meta, receipt, messages, index, &mut tally);
+            self.offer(part, meta, receipt, messages, index, &mut account);
             index = messages.next_of(part.writer, index + 1);
         }
-        tally
+        account
     }
 
     // One of the messages, which is of the reader's writer.
@@ -111,39 +112,42 @@ impl Member {
         receipt: &Receipt,
         messages: &Messages<'_>,
         index: usize,
-        tally: &mut Tally,
+        account: &mut Account,
     )
         requires reader { HoldsRowsOf meta.now self.old }
         requires index { index < length messages.now.parts.now }
         requires own { (listed_at messages.now index).0 ≡ part.now.writer }
-        requires matched { tally.old.matched < 255 }
-        requires bad { tally.old.bad < 255 }
+        requires matched { account.old.tally.matched < 255 }
+        requires bad { account.old.tally.bad < 255 }
         ensures fed { IsOffered part.now meta.now receipt.now (listed_at messages.now index)
-            self.old tally.old self.new tally.new }
+            self.old account.old self.new account.new }
         ensures reader { HoldsRowsOf meta.now self.new }
-        ensures matched { tally.new.matched ≤ tally.old.matched + 1 }
-        ensures bad { tally.new.bad ≤ tally.old.bad + 1 }
+        ensures matched { account.new.tally.matched ≤ account.old.tally.matched + 1 }
+        ensures bad { account.new.tally.bad ≤ account.old.tally.bad + 1 }
     {
-        let is_bad = self.message(meta, receipt, messages.message(index));
-        tally.count(is_bad);
+        let outcome = self.message(meta, receipt, messages.message(index));
+        account.count(outcome);
     }
 
-    // What stands in the reader's slot; it is bad where the datagram ends before the slot does.
-    fn slot(&mut self, part: &ReaderPart, meta: &Meta, receipt: &Receipt, datagram: &[u8]) -> bool
+    // What stands in the reader's slot; it is missing where the datagram ends before the slot does.
+    fn slot(
+        &mut self,
+        part: &ReaderPart,
+        meta: &Meta,
+        receipt: &Receipt,
+        datagram: &[u8],
+    ) -> PartOutcome
         requires { HoldsRowsOf meta.now self.old }
         ensures case { FollowsPiece part.now meta.now receipt.now
             (slot_piece (slot_of datagram.now (reader_slot part.now))) self.old self.new result }
         ensures reader { HoldsRowsOf meta.now self.new }
     {
         let Some(bytes) = slot_of(part, datagram) else {
-            return true;
+            return PartOutcome::Bad(PartFault::Missing);
         };
         match self.read_slot(meta, bytes) {
-            Ok(()) => {
-                self.give_kept(meta, receipt);
-                false
-            }
-            Err(_) => true,
+            Ok(()) => self.give_kept(meta, receipt),
+            Err(fault) => PartOutcome::Bad(PartFault::Frame(fault)),
         }
     }
 
@@ -158,19 +162,16 @@ impl Member {
         read_slot_frame_into(meta, bytes, &mut self.frame)
     }
 
-    // A message; the answer says whether it is bad.
-    fn message(&mut self, meta: &Meta, receipt: &Receipt, bytes: &[u8]) -> bool
+    // A message.
+    fn message(&mut self, meta: &Meta, receipt: &Receipt, bytes: &[u8]) -> PartOutcome
         requires { HoldsRowsOf meta.now self.old }
         ensures case { (part : AnyPart)
             → FollowsPiece part meta.now receipt.now (Message bytes.now) self.old self.new result }
         ensures reader { HoldsRowsOf meta.now self.new }
     {
         match self.read(meta, bytes) {
-            Ok(()) => {
-                self.give_kept(meta, receipt);
-                false
-            }
-            Err(_) => true,
+            Ok(()) => self.give_kept(meta, receipt),
+            Err(fault) => PartOutcome::Bad(PartFault::Frame(fault)),
         }
     }
 
@@ -186,14 +187,15 @@ impl Member {
     }
 
     // A chunk of a message, and the message where it is whole then.
-    fn chunk(&mut self, meta: &Meta, receipt: &Receipt, bytes: &[u8]) -> bool
+    fn chunk(&mut self, meta: &Meta, receipt: &Receipt, bytes: &[u8]) -> PartOutcome
         requires { HoldsRowsOf meta.now self.old }
         ensures case { (part : AnyPart)
             → FollowsPiece part meta.now receipt.now (Chunked bytes.now) self.old self.new result }
         ensures reader { HoldsRowsOf meta.now self.new }
     {
-        let Ok(chunk) = read_chunk(bytes) else {
-            return true;
+        let chunk = match read_chunk(bytes) {
+            Ok(chunk) => chunk,
+            Err(fault) => return PartOutcome::Bad(PartFault::Chunk(fault)),
         };
         match lay(
             &mut self.joiner,
@@ -203,23 +205,24 @@ impl Member {
             chunk.data,
         ) {
             Joined::Whole(_) => self.joined(meta, receipt),
-            Joined::Part | Joined::Older => false,
-            Joined::TooLong { .. } | Joined::BadRange { .. } | Joined::Differs { .. } => true,
+            Joined::Part | Joined::Older => PartOutcome::Read,
+            Joined::TooLong { total } => PartOutcome::Bad(PartFault::TooLong { total }),
+            Joined::BadRange { offset, total } => {
+                PartOutcome::Bad(PartFault::BadRange { offset, total })
+            }
+            Joined::Differs { first, now } => PartOutcome::Bad(PartFault::Differs { first, now }),
         }
     }
 
     // The message that was joined.
-    fn joined(&mut self, meta: &Meta, receipt: &Receipt) -> bool
+    fn joined(&mut self, meta: &Meta, receipt: &Receipt) -> PartOutcome
         requires { HoldsRowsOf meta.now self.old }
         ensures case { FollowsJoined meta.now receipt.now self.old self.new result }
         ensures reader { HoldsRowsOf meta.now self.new }
     {
         match self.read_joined(meta) {
-            Ok(()) => {
-                self.give_kept(meta, receipt);
-                false
-            }
-            Err(_) => true,
+            Ok(()) => self.give_kept(meta, receipt),
+            Err(fault) => PartOutcome::Bad(PartFault::Frame(fault)),
         }
     }
 
@@ -234,14 +237,15 @@ impl Member {
     }
 
     // The reader is given the frame that is kept.
-    fn give_kept(&mut self, meta: &Meta, receipt: &Receipt)
+    fn give_kept(&mut self, meta: &Meta, receipt: &Receipt) -> PartOutcome
         requires { HoldsRowsOf meta.now self.old }
-        ensures member { IsGivenKept meta.now receipt.now self.old self.new }
+        ensures member { IsGivenKept meta.now receipt.now self.old self.new result }
         ensures reader { HoldsRowsOf meta.now self.new }
     {
         carries_short(self.frame.number);
         let took = self.reader.frame(meta, &self.frame, receipt.stamp);
         self.note(receipt.moment, took.outcome);
+        PartOutcome::of(took.outcome)
     }
 }
 

@@ -26,7 +26,8 @@ pub struct Taken {
 pub enum Refusal {
     /// It has no header.
     Header(HeaderFault),
-    /// Its publisher, its group, the group's version or its class id isn't the one that the read group asks for.
+    /// Its publisher, its group, the group's version or its class id isn't the one that the read group asks for, or its
+    /// NetworkMessageNumber isn't the one that `ReaderGroup::datagram_of_number` asks for.
     NotOurs,
     /// It has no payload header, in a dynamic layout.
     NoIds,

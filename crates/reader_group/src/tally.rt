@@ -9,22 +9,8 @@ pub(crate) struct Tally {
 
 impl Tally {
     ghost use Rattle.std.specs.Prelude.{◌≡◌, ◌+◌, ◌^◌, ◌<◌};
-    ghost use Rattle.reader_group.specs.Plain.{count_if};
 
     pub const NONE: Tally = Tally { matched: 0, bad: 0 };
-
-    /// One part more, that is bad or isn't.
-    pub fn count(&mut self, is_bad: bool)
-        requires matched { self.old.matched < 255 }
-        requires bad { self.old.bad < 255 }
-        ensures matched { self.new.matched ≡ self.old.matched + 1 }
-        ensures bad { self.new.bad ≡ self.old.bad + count_if is_bad }
-    {
-        self.matched += 1;
-        if is_bad {
-            self.bad += 1;
-        }
-    }
 
     /// Those of another.
     pub fn add(&mut self, other: &Tally)
@@ -35,16 +21,5 @@ impl Tally {
     {
         self.matched += other.matched;
         self.bad += other.bad;
-    }
-
-    /// That of one part.
-    pub fn of_one(is_bad: bool) -> Tally
-        ensures matched { result.matched ≡ 1 }
-        ensures bad { result.bad ≡ count_if is_bad }
-    {
-        Tally {
-            matched: 1,
-            bad: u32::from(is_bad),
-        }
     }
 }

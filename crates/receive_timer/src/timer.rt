@@ -9,7 +9,7 @@ pub struct Timer {
 }
 
 impl Timer {
-    ghost use Rattle.receive_timer.specs.Told.{Told, Seen, Cleared, IsTimerOf, is_due};
+    ghost use Rattle.receive_timer.specs.Told.{Told, Seen, Cleared, IsTimerOf, TellsDue, is_due};
 
     /// A timer that runs out `limit` after the last message, or never where that is 0.
     pub fn new(limit: u64) -> Timer
@@ -42,6 +42,21 @@ impl Timer {
         match self.last {
             Some(moment) => self.limit != 0 && moment <= now && now - moment >= self.limit,
             None => false,
+        }
+    }
+
+    /// The moment from which on the timer has run out. None where the limit is 0, where no message came since the timer was cleared,
+    /// and where 64 bits don't hold the moment.
+    pub fn due_from(&self) -> Option<u64>
+        ensures { (limit : ℕ) (told : List Told) → IsTimerOf limit told self.now
+            → TellsDue limit told result }
+    {
+        if self.limit == 0 {
+            return None;
+        }
+        match self.last {
+            Some(moment) => moment.checked_add(self.limit),
+            None => None,
         }
     }
 }

@@ -4,13 +4,17 @@ use Rattle.frame_codec.specs.Words.{IsFrameOf}
 use Rattle.dataset_reader.specs.declared.reader.Reader.{Reader}
 use Rattle.dataset_reader.specs.Reader.{IsReaderOf}
 use Rattle.reader_group.specs.Members.{seat_of}
-use Rattle.reader_group.proofs.Giving.{given_is}
+use Rattle.reader_group.proofs.Giving.{given_is, outcome_is}
 use Rattle.reader_group.proofs.member.Member.give_kept.Goals as goal
 
 pub returns-clause-member : goal.returns-clause-member
 returns-clause-member c = λ part member h.
-    given_is (seat_of part c.args.meta.now) c.args.receipt.now member c.args.self.now.frame c.args.self.now c.frame-took.new.self c.note.new.self c.frame-took.result c.carries_short.ensures h
-    c.frame-took.ensures.kept c.frame-took.ensures.took (λ value is. c.note.ensures.member (seat_of part c.args.meta.now) value is) c.frame-took.ensures.passed c.frame-took.ensures.numbering
+    let seat = seat_of part c.args.meta.now in
+    let took = c.frame-took in (
+      given_is seat c.args.receipt.now member c.args.self.now.frame c.args.self.now took.new.self c.note.new.self took.result c.carries_short.ensures h
+          took.ensures.kept took.ensures.took (λ value is. c.note.ensures.member seat value is) took.ensures.passed took.ensures.numbering,
+      outcome_is seat c.args.receipt.now member c.args.self.now.frame c.args.self.now took.result c.of.result c.carries_short.ensures h took.ensures.took c.of.ensures,
+    )
 
 pub returns-clause-reader : goal.returns-clause-reader
 returns-clause-reader c = record {

@@ -6,10 +6,11 @@ use Rattle.reader_group.specs.Groups.{AreMembers, Stands, guard_of, members_of, 
 use Rattle.reader_group.specs.Plain.{PlainGroup, with_keys}
 use Rattle.reader_group.specs.Settings.{setting_by}
 use Rattle.reader_group.proofs.Made.{part_contained, setup-mode}
+use Rattle.reader_group.proofs.Noticing.{taken_notices}
 use Rattle.reader_group.proofs.Seats.{few_readers, seats-length}
 use Rattle.reader_group.proofs.Steps.{IsTaken, bytes-are, receipt_with, made_readers, stands_part, taken_step, taken_answer}
-use Rattle.reader_group.proofs.group.ReaderGroup.datagram.Goals as goal
-use Rattle.reader_group.proofs.group.ReaderGroup.datagram.Goals.{After-self-3-1}
+use Rattle.reader_group.proofs.group.ReaderGroup.take.Goals as goal
+use Rattle.reader_group.proofs.group.ReaderGroup.take.Goals.{After-self-3-1}
 
 pub part_count-requires : goal.part_count-requires
 part_count-requires c =
@@ -69,3 +70,15 @@ returns-in_err-begun-clause-bytes c = λ keys plain h.
 pub returns-clause-bytes : goal.returns-clause-bytes
 returns-clause-bytes c = λ keys plain h.
     bytes-are c.args.config.now c.args.self.now c.part_at-part.result.now keys plain c.args.bytes.now c.open.new.bytes c.requires.made c.part_at-part.ensures h c.in_ok-begun.ensures.bytes
+
+pub returns-clause-notices : goal.returns-clause-notices
+returns-clause-notices c = λ keys plain h k within.
+    let config = c.args.config.now in
+    let old = c.args.self.now in
+    let part = c.part_at-part.result.now in
+    let seats = (setting_by config part).seats in
+    let before = stands_part config old part keys plain c.requires.made c.part_at-part.ensures h in
+    let members : AreMembers seats plain.members c.deref_mut.result.now = subst (AreMembers seats plain.members) (sym c.deref_mut.ensures.value) before.members in
+    taken_notices config old part keys plain c.args.now c.args.on.now c.args.bytes.now c.open.new.bytes c.accept-raised.new.self c.feed_all-tally.new.members c.in_ok-begun.begun c.open.new.room
+    c.accept-raised.result (receipt_with c.args.now c.stamp_of.result) (payload_in c.payload_held-payload.result) c.feed_all-tally.result old.notices c.feed_all-tally.new.notices k
+    c.requires.made c.part_at-part.ensures (taken c keys plain h) (λ inside. c.feed_all-tally.ensures.notices plain.members members k inside) within
