@@ -45,20 +45,21 @@ abbrev pub ChunkIsCutFor : Making → Way → ℕ → ℕ → Result Chunk Chunk
 ChunkIsCutFor m way token number (Ok chunk) = IsCutFor m way token number chunk
 ChunkIsCutFor m way token number (Err fault) = ⊤
 
--- a part of the datagram with this token and number is a message that was sent so, or a chunk of one
+-- A part of the datagram with this token and number is a message that gives an item of a place that was sent under them, or a chunk of the message of such a
+-- place. What a message or a slot says of its fields isn't asked: only its place. A chunk's bytes are.
 abbrev pub IsPartFor : Making → Way → ℕ → ℕ → Piece → Type 0
 IsPartFor m way token number (Message bytes) = ReadGives way token number (frame_at way.seat.meta bytes) (IsSentAt m token number)
 IsPartFor m way token number (Chunked bytes) = ChunkIsCutFor m way token number (without_rest (chunk_at bytes))
 IsPartFor m way token number (Slotted bytes) = ReadGives way token number (slot_frame_at way.seat.meta bytes) (IsSentAt m token number)
 IsPartFor m way token number Missing = ⊤
 
--- the sender made the datagram: where the read group takes it, each part for the reader is such
+-- the datagram has what the sender sent under its token and number: where the read group takes it, each part for the reader is such
 abbrev pub IsMadeFor : Making → Setting → Way → List ℕ → Type 0
 IsMadeFor m setting way datagram =
     (pairs : Accepted) (opened : Opened) → verdict setting.group setting.setup pairs datagram ≡ Ok opened
     → All (IsPartFor m way opened.pass.token opened.pass.number) (pieces way.seat.part opened.payload)
 
--- the sender made each datagram that came with a signature under a key of the ring
+-- each datagram that came with a signature under a key of the ring has what the sender sent under its token and number
 abbrev pub SignedAreMade : Making → Setting → Way → List Event → Type 0
 SignedAreMade m setting way [] = ⊤
 SignedAreMade m setting way (Got moment on datagram ∷ before) =
