@@ -22,9 +22,15 @@
 #include <stdint.h>
 #include <string.h>
 
-#if !defined(__x86_64__) || UINTPTR_MAX != 0xffffffffffffffff
-#error "libuapubsub_c.a is for x86-64, with pointers of 64 bits"
+#if UINTPTR_MAX != 0xffffffffffffffff || !defined(__BYTE_ORDER__) || __BYTE_ORDER__ != __ORDER_LITTLE_ENDIAN__
+#error "the library is for processors with pointers of 64 bits, whose words have their low byte first"
 #endif
+
+/* The version of this header; docs/INSTALL.md says what a number promises. */
+#define UAPUBSUB_VERSION_MAJOR 0
+#define UAPUBSUB_VERSION_MINOR 1
+#define UAPUBSUB_VERSION_PATCH 0
+#define UAPUBSUB_VERSION (UAPUBSUB_VERSION_MAJOR * 1000000u + UAPUBSUB_VERSION_MINOR * 1000u + UAPUBSUB_VERSION_PATCH)
 
 #ifdef __cplusplus
 extern "C" {
@@ -142,7 +148,22 @@ uint32_t uapubsub_get_bytes(struct uap_handle *handle, uint8_t group, uint8_t re
 uint32_t uapubsub_get_guid(struct uap_handle *handle, uint8_t group, uint8_t reader, uint8_t field, struct uap_guid *guid);
 uint32_t uapubsub_get_field_status(struct uap_handle *handle, uint8_t group, uint8_t reader, uint8_t field, uint32_t *status);
 
+/* The version of the library, as UAPUBSUB_VERSION. It isn't one of the proved calls: it stands in libuapubsub.a and libuapubsub.so, and not in
+ * libuapubsub_c.a. */
+uint32_t uapubsub_version(void);
+
 /* ---- both sides */
+
+/* The version of the library that is linked or loaded, as UAPUBSUB_VERSION. */
+static inline uint32_t uap_version(void) {
+    return uapubsub_version();
+}
+
+/* Whether that library does what this header says: it has the same major number, while that is 0 the same minor one too, and isn't older. */
+static inline bool uap_version_fits(void) {
+    const uint32_t linked = uapubsub_version(), unit = UAPUBSUB_VERSION_MAJOR == 0 ? 1000u : 1000000u;
+    return linked / unit == UAPUBSUB_VERSION / unit && linked >= UAPUBSUB_VERSION;
+}
 
 /* Judges a configuration. With UAP_REFUSED the line that `uapubsub check` prints, without its end and without a zero, is laid at the front
  * of `error`, as far as there is room, and `written` is how many bytes of it are laid; else it is 0. */

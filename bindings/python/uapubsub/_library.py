@@ -1,0 +1,79 @@
+"""libuapubsub.so by ctypes: its structs and its calls. UAPUBSUB_LIBRARY names another file of it; else it is the one beside this module, or the one
+that the system's loader finds."""
+import ctypes, os
+from ctypes import POINTER, Structure, c_char_p, c_size_t, c_uint8, c_uint16, c_uint32, c_uint64, c_void_p
+
+VERSION = (0, 1)
+
+
+class Handle(Structure):
+    _fields_ = [("is_open", c_uint32), ("held", c_void_p)]
+
+
+class KeySet(Structure):
+    """The keys of one token, as struct uap_key_set has them."""
+
+    _fields_ = [("token", c_uint32), ("nonce", c_uint8 * 4), ("from_ms", c_uint64), ("signing", c_uint8 * 32), ("encrypting", c_uint8 * 32)]
+
+    @classmethod
+    def of(cls, token: int, from_ms: int, signing: bytes, encrypting: bytes, nonce: bytes) -> "KeySet":
+        if len(signing) != 32 or len(encrypting) not in (16, 32) or len(nonce) != 4:
+            raise ValueError("signing keys have 32 bytes, encrypting keys 16 or 32, nonces 4")
+        return cls(token, (c_uint8 * 4)(*nonce), from_ms, (c_uint8 * 32)(*signing), (c_uint8 * 32)(*encrypting))
+
+
+class Taken(Structure):
+    """What became of the messages of a datagram: how many it had, how often one was given to a reader, and how many of these couldn't be read."""
+
+    _fields_ = [("parts", c_uint32), ("matched", c_uint32), ("bad", c_uint32)]
+
+
+# Each call with a letter for each parameter, by the types of the header.
+TYPES = {"handle": POINTER(Handle), "index": c_uint8, "index*": POINTER(c_uint8), "bytes": c_char_p, "room": c_void_p, "size": c_size_t,
+         "size*": POINTER(c_size_t), "u16*": POINTER(c_uint16), "u32": c_uint32, "u32*": POINTER(c_uint32), "u64": c_uint64, "u64*": POINTER(c_uint64),
+         "sets": POINTER(KeySet), "taken*": POINTER(Taken)}
+CALLS = """
+version
+config_check           bytes size room size size*
+close                  handle
+publisher_open         handle bytes size
+publisher_next         handle u64 room size size*
+publisher_standing     handle index u32* u32*
+publisher_resume       handle index u64 u32
+publisher_resume_with  handle index u64 u32 u32 sets size
+publisher_renew        handle index sets size
+writer_enable          handle index index
+writer_disable         handle index index
+subscriber_open        handle bytes size
+subscriber_datagram    handle index u64 room size taken*
+subscriber_expire      handle u64
+subscriber_renew       handle index sets size
+reader_enable          handle index index
+reader_disable         handle index index
+reader_why             handle index index u32*
+reader_number          handle index index u16*
+set_scalar             handle index index u32 u64
+set_text               handle index index bytes size
+set_bytes              handle index index bytes size
+set_guid               handle index index bytes
+set_field_status       handle index index u32
+get_scalar             handle index index index u32 u64*
+get_text               handle index index index room size size*
+get_bytes              handle index index index room size size*
+get_guid               handle index index index room
+get_field_status       handle index index index u32*
+"""
+
+
+def loaded():
+    beside = os.path.join(os.path.dirname(__file__), "libuapubsub.so.0")
+    library = ctypes.CDLL(os.environ.get("UAPUBSUB_LIBRARY") or (beside if os.path.exists(beside) else "libuapubsub.so.0"))
+    for name, *kinds in map(str.split, CALLS.strip().splitlines()):
+        call = getattr(library, f"uapubsub_{name}")
+        call.argtypes, call.restype = [TYPES[it] for it in kinds], c_uint32
+    if divmod(library.uapubsub_version() // 1000, 1000) != VERSION:
+        raise ImportError(f"this module is for version {VERSION[0]}.{VERSION[1]} of libuapubsub, and the library is of another: {library.uapubsub_version()}")
+    return library
+
+
+library = loaded()
