@@ -1,4 +1,4 @@
-// Plays the table of models/foreign through a subscriber and a publisher: each datagram gets the answer that stands behind it, each reader
+// Plays the table of models/foreign through a subscriber and a publisher: each datagram gets the answer that stands after it, each reader
 // holds the row, or waits for the reason, that the table tells, and each datagram that a publisher gives is the table's. models/foreign/table.py
 // has the form of a line. Files of configurations are named from the folder that the program runs in.
 #include "calls.h"
@@ -52,7 +52,7 @@ static uint64_t little_endian_word(const struct datagram *bytes) {
     return word;
 }
 
-// ---- values: KIND=BYTES, and !STATUS behind it
+// ---- values: KIND=BYTES, and !STATUS after it
 
 struct value {
     char kind[16];

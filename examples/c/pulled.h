@@ -41,7 +41,7 @@ static inline size_t pulled_sets(const struct pulled *answer, bool aes256, uint6
     if (strcmp(answer->policy_uri, uri) != 0 || next == 0 || lifetime == 0) return 0;
     for (size_t i = 0; i < count; i++) {
         if (answer->lengths[i] != SIGNING_BYTES + encrypting + NONCE_BYTES) return 0;
-        if (i > UINT32_MAX - answer->first_token) return i;       /* the tokens behind it begin anew at 1: ask again under the last one */
+        if (i > UINT32_MAX - answer->first_token) return i;       /* the tokens after it begin anew at 1: ask again under the last one */
         memset(&sets[i], 0, sizeof sets[i]);
         sets[i].token = answer->first_token + (uint32_t)i;
         sets[i].from_ms = i == 0 ? 0 : now_ms + next + (i - 1) * lifetime;

@@ -51,17 +51,17 @@ def tutorial_plain(t):
     t.holds("of a lower minor version", tutorial(clock(9, minor=0)), date_time(9))
     t.holds("of a greater minor version, with a field more", tutorial(clock(10, minor=2, fields=[variant(date_time(10)), variant(u32(5))])),
             date_time(10))
-    t.bad("a field more, and the same minor version", tutorial(clock(11, fields=[variant(date_time(11)), variant(u32(5))])))
-    t.bad("no field, and a greater minor version", tutorial(clock(11, minor=2, fields=[])))
-    t.bad("a count of two with one field, and a greater minor version", tutorial(clock(11, minor=2, count=2)))
+    t.bad("a field more, and the same minor version", tutorial(clock(11, fields=[variant(date_time(11)), variant(u32(5))])), "WrongCount")
+    t.bad("no field, and a greater minor version", tutorial(clock(11, minor=2, fields=[])), "WrongCount")
+    t.bad("a count of two with one field, and a greater minor version", tutorial(clock(11, minor=2, count=2)), "Short")
     t.holds("DataValue with its source time", tutorial(clock(12, encoding=DATA_VALUE, fields=[data_value(date_time(12), source=STAMP)])),
             date_time(12))
     t.holds("DataValue with all six parts, its status Bad: this data set has no quality", tutorial(clock(13, encoding=DATA_VALUE, fields=[
         data_value(date_time(13), BAD, STAMP, 1, STAMP, 2)])), date_time(13))
-    t.holds("zeros behind the message", tutorial(clock(14, more=bytes(6))), date_time(14))
-    t.bad("another byte behind the message", tutorial(clock(15, more=b"\x00\x01")))
+    t.holds("zeros after the message", tutorial(clock(14, more=bytes(6))), date_time(14))
+    t.bad("another byte after the message", tutorial(clock(15, more=b"\x00\x01")), "Trailing")
     t.stays("delta frame: without numbers nobody can tell whether one is missing",
-            tutorial(clock(16, kind=DELTA, indexes=[0])))
+            tutorial(clock(16, kind=DELTA, indexes=[0])), passed="unnumbered")
     t.stays("keep-alive", tutorial(clock(16, kind=KEEP_ALIVE)))
 
 
@@ -69,42 +69,46 @@ def tutorial_versions(t):
     t.part("Another major version, and one that is made of the moment of a start")
     t.subscriber("examples/foreign/tutorial.toml", 1)
     t.holds("the major version that is asked for", tutorial(clock(19)), date_time(19))
-    t.stays("major version 4", tutorial(clock(20, major=4)))
-    t.stays("a keep-alive of major version 4", tutorial(clock(20, major=4, kind=KEEP_ALIVE)))
-    t.stays("the major version is the start's seconds since 2000", tutorial(clock(20, major=815_702_400, minor=815_702_400)))
-    t.stays("and a later one, of the next start", tutorial(clock(20, major=815_702_460, minor=815_702_460)))
+    t.stays("major version 4", tutorial(clock(20, major=4)), passed="major")
+    t.stays("a keep-alive of major version 4", tutorial(clock(20, major=4, kind=KEEP_ALIVE)), passed="major")
+    t.stays("the major version is the start's seconds since 2000", tutorial(clock(20, major=815_702_400, minor=815_702_400)),
+            passed="major")
+    t.stays("and a later one, of the next start", tutorial(clock(20, major=815_702_460, minor=815_702_460)), passed="major")
     t.subscriber("models/foreign/tutorial-restarted.toml", 1)
     t.holds("which is read where `major` is set to it", tutorial(clock(21, major=815_702_400, minor=815_702_400)), date_time(21))
-    t.stays("and the version before isn't", tutorial(clock(22)))
+    t.stays("and the version before isn't", tutorial(clock(22)), passed="major")
 
 
 def tutorial_fields(t):
     t.part("Fields that a data set of one DateTime can't have")
     t.subscriber("examples/foreign/tutorial.toml", 1)
     t.holds("a value", tutorial(clock(1)), date_time(1))
-    for text, field in [("a StatusCode in the value's place, as the standard has a Bad field", variant(Value("StatusCode", BAD))),
-                        ("a null Variant", variant(None)), ("an Int64", variant(Value("Int64", 5))),
-                        ("an array of DateTimes", array([date_time(1), date_time(2)])),
-                        ("a LocalizedText", variant(Value("LocalizedText", b"noon"))),
-                        ("a type that the standard reserves, 26", b"\x1a\x00"), ("a DateTime that ends early", variant(date_time(2))[:-1])]:
-        t.bad(text, tutorial(clock(2, fields=[field])))
-    for text, field in [("DataValue without a value, whose status is Bad", data_value(None, BAD)),
-                        ("DataValue of a null Variant", b"\x01" + variant(None)), ("DataValue of nothing", data_value(None)),
-                        ("DataValue of an Int32, of status Good", data_value(Value("Int32", 1), 0)),
-                        ("DataValue with a reserved bit of its mask", b"\x41" + variant(date_time(2)))]:
-        t.bad(text, tutorial(clock(2, encoding=DATA_VALUE, fields=[field])))
-    t.bad("RawData behind a payload header", tutorial(clock(2, encoding=RAW, fields=[date_time(2).raw()])))
-    t.bad("a delta frame of RawData", tutorial(clock(2, encoding=RAW, kind=DELTA, indexes=[0], fields=[date_time(2).raw()])))
-    t.bad("an event message", tutorial(clock(2, kind=EVENT)))
-    t.bad("the field encoding that is reserved", tutorial(clock(2, encoding=RESERVED)))
-    t.bad("a kind of message that is reserved, 4", tutorial(clock(2, kind=4)))
-    t.bad("a bit of DataSetFlags2 that is reserved", tutorial(clock(2, flags2=0x40)))
-    t.bad("a message that says that it isn't valid", tutorial(clock(2, valid=False)))
-    t.bad("an index past the fields, in a delta frame", tutorial(clock(2, kind=DELTA, indexes=[1])))
+    for text, field, fault in [
+            ("a StatusCode in the value's place, as the standard has a Bad field", variant(Value("StatusCode", BAD)), "BadValue"),
+            ("a null Variant", variant(None), "KindOut"), ("an Int64", variant(Value("Int64", 5)), "BadValue"),
+            ("an array of DateTimes", array([date_time(1), date_time(2)]), "KindOut"),
+            ("a LocalizedText", variant(Value("LocalizedText", b"noon")), "KindOut"),
+            ("a type that the standard reserves, 26", b"\x1a\x00", "KindOut"),
+            ("a DateTime that ends early", variant(date_time(2))[:-1], "Short")]:
+        t.bad(text, tutorial(clock(2, fields=[field])), fault)
+    for text, field, fault in [("DataValue without a value, whose status is Bad", data_value(None, BAD), "BadValue"),
+                               ("DataValue of a null Variant", b"\x01" + variant(None), "KindOut"),
+                               ("DataValue of nothing", data_value(None), "BadValue"),
+                               ("DataValue of an Int32, of status Good", data_value(Value("Int32", 1), 0), "BadValue"),
+                               ("DataValue with a reserved bit of its mask", b"\x41" + variant(date_time(2)), "KindOut")]:
+        t.bad(text, tutorial(clock(2, encoding=DATA_VALUE, fields=[field])), fault)
+    t.bad("RawData after a payload header", tutorial(clock(2, encoding=RAW, fields=[date_time(2).raw()])), "BadEncoding")
+    t.bad("a delta frame of RawData", tutorial(clock(2, encoding=RAW, kind=DELTA, indexes=[0], fields=[date_time(2).raw()])), "BadEncoding")
+    t.bad("an event message", tutorial(clock(2, kind=EVENT)), "EventOut")
+    t.bad("the field encoding that is reserved", tutorial(clock(2, encoding=RESERVED)), "BadEncoding")
+    t.bad("a kind of message that is reserved, 4", tutorial(clock(2, kind=4)), "ReservedBits")
+    t.bad("a bit of DataSetFlags2 that is reserved", tutorial(clock(2, flags2=0x40)), "ReservedBits")
+    t.bad("a message that says that it isn't valid", tutorial(clock(2, valid=False)), "NotValid")
+    t.bad("an index past the fields, in a delta frame", tutorial(clock(2, kind=DELTA, indexes=[1])), "BadIndex")
     t.holds("a value again", tutorial(clock(3)), date_time(3))
     t.case("990 ms later it is still held")
     t.expire(990)
-    t.bad("a StatusCode in the value's place begins no new timeout", tutorial(clock(4, fields=[variant(Value("StatusCode", BAD))])))
+    t.bad("a StatusCode in the value's place begins no new timeout", tutorial(clock(4, fields=[variant(Value("StatusCode", BAD))])), "BadValue")
     t.case("so the row goes")
     t.expire(0, waits={0: "timeout"})
 
@@ -154,7 +158,10 @@ def truncated(t, datagram):
     """All beginnings of a datagram of one message."""
     whole, header = datagram.bytes(), len(datagram.front())
     for length in range(len(whole)):
-        t.stays(f"the first {length} bytes", whole[:length], "HEADER_SHORT" if length < header else "taken 1 1 1")
+        if length < header:
+            t.stays(f"the first {length} bytes", whole[:length], "HEADER_SHORT")
+        else:
+            t.bad(f"the first {length} bytes", whole[:length], "Short")
 
 
 # ---------------------------------------------------------------- the tutorial publisher with keys
@@ -176,7 +183,7 @@ def tutorial_encrypted(t):
     t.stays("the number 4 again", secured(4, 4), "REPEATED")
     t.stays("the number 4 again, of another message", secured(4, 5), "REPEATED")
     t.holds("the number 7", secured(7, 7), date_time(7))
-    t.holds("the number 6 behind it: without numbers of messages an older row is held", secured(6, 6), date_time(6))
+    t.holds("the number 6 after it: without numbers of messages an older row is held", secured(6, 6), date_time(6))
     t.holds("the number 0", secured(0, 8), date_time(8))
     t.holds("the number 1030", secured(1030, 9), date_time(9))
     t.stays("the number 6 again is too old", secured(6, 6), "TOO_OLD")
@@ -185,9 +192,9 @@ def tutorial_encrypted(t):
     t.stays("token 2", secured(1031, 11, Keys(2, bytes(32), bytes(16), bytes(4))), "UNKNOWN_TOKEN")
     t.stays("other signing keys", secured(1031, 11, Keys(1, b"\x01" + bytes(31), bytes(16), bytes(4))), "SIGNATURE")
     t.bad("other encrypting keys: the signature is right, and the message can't be read", secured(1031, 11, Keys(1, bytes(32), b"\x01" + bytes(15),
-                                                                                                               bytes(4))))
-    t.bad("the first block's number 0", secured(1032, 12, first_block=0))
-    t.bad("and again", secured(1033, 13, first_block=0))
+                                                                                                               bytes(4))), "any")
+    t.bad("the first block's number 0", secured(1032, 12, first_block=0), "any")
+    t.bad("and again", secured(1033, 13, first_block=0), "any")
     t.stays("neither signed nor encrypted", tutorial(clock(14)), "MODE")
     t.stays("signed alone", secured(1034, 14, encrypted=False), "MODE")
     t.stays("encrypted alone", secured(1034, 14, signed=False), "MODE")
@@ -212,11 +219,11 @@ def tutorial_restart(t):
     t.subscriber("examples/foreign/tutorial-encrypted.toml", 1)
     for number in range(1, 4):
         t.holds(f"the number {number}", secured(number, number), date_time(number))
-    t.stays("behind the restart the number 1", secured(1, 60), "REPEATED")
+    t.stays("after the restart the number 1", secured(1, 60), "REPEATED")
     t.stays("and 3", secured(3, 62), "REPEATED")
     t.holds("and 4, which is new", secured(4, 63), date_time(63))
     t.holds("the number 5000", secured(5000, 100), date_time(100))
-    t.stays("behind a later restart the number 1", secured(1, 160), "TOO_OLD")
+    t.stays("after a later restart the number 1", secured(1, 160), "TOO_OLD")
     t.case("and after the timeout still")
     t.expire(1000, waits={0: "timeout"})
     t.stays("the number 2", secured(2, 161), "TOO_OLD")
@@ -224,7 +231,7 @@ def tutorial_restart(t):
     t.holds("a subscriber that is opened anew takes it", secured(3, 162), date_time(162))
 
 
-# ---------------------------------------------------------------- RawData behind a payload header
+# ---------------------------------------------------------------- RawData after a payload header
 
 def simple(toggle, first, second, seconds):
     return [Value("Boolean", toggle), Value("Int32", first), Value("Int32", second), date_time(seconds)]
@@ -254,7 +261,7 @@ def net_rows(number):
 
 
 def net_default(t):
-    t.part("The .NET reference publisher's default: RawData behind a payload header, each message padded to 32 bytes")
+    t.part("The .NET reference publisher's default: RawData after a payload header, each message padded to 32 bytes")
     t.subscriber("examples/foreign/net.toml", 2)
     for number in range(1, 5):
         t.case(f"a datagram with both messages, number {number}")
@@ -262,9 +269,9 @@ def net_default(t):
     t.case("a number was lost: the next key frame holds at once")
     t.take(both(6), "taken 2 2 0", rows=net_rows(6))
     t.case("the number 5 comes late, and is passed over")
-    t.take(both(5), "taken 2 2 0")
+    t.take(both(5), "taken 2 2 0", passed={0: "older", 1: "older"})
     t.case("the same number again")
-    t.take(both(6), "taken 2 2 0")
+    t.take(both(6), "taken 2 2 0", passed={0: "older", 1: "older"})
     t.case("statuses of both messages are Bad, and read past")
     t.take(net(7, raw_message(simple(False, 7, 7, 7), 7, status=BAD >> 16), raw_message(all_types(7), 7, status=BAD >> 16)), "taken 2 2 0",
            rows={0: simple(False, 7, 7, 7), 1: all_types(7)})
@@ -275,31 +282,32 @@ def net_default(t):
 
 def net_refused(t):
     t.case("the first message alone: the header is shorter, and no slot is whole")
-    t.take(net(9, raw_message(simple(True, 9, 9, 9), 9), writers=[1]), "taken 2 2 2")
+    t.take(net(9, raw_message(simple(True, 9, 9, 9), 9), writers=[1]), "taken 2 2 2", faults={0: "NoSlot", 1: "NoSlot"})
     t.case("three messages: the header is longer, and both slots begin amidst others")
     third = raw_message(all_types(9), 9)
-    t.take(net(9, raw_message(simple(True, 9, 9, 9), 9), third, third, writers=[1, 2, 3]), "taken 2 2 2")
+    t.take(net(9, raw_message(simple(True, 9, 9, 9), 9), third, third, writers=[1, 2, 3]), "taken 2 2 2",
+           faults={0: "NotValid", 1: "NotValid"})
     t.case("the second message isn't valid")
     t.take(net(9, raw_message(simple(True, 9, 9, 9), 9), raw_message(all_types(9), 9, valid=False)), "taken 2 2 1",
-           rows={0: simple(True, 9, 9, 9)})
+           rows={0: simple(True, 9, 9, 9)}, faults={1: "NotValid"})
     t.case("a keep-alive of the second writer, with the number that comes next")
     t.take(net(10, raw_message(simple(True, 10, 10, 10), 10), Message(kind=KEEP_ALIVE, sequence=9, status=0, configured=32)), "taken 2 2 0",
            rows={0: simple(True, 10, 10, 10)})
     t.case("a delta frame of RawData in the first slot")
     t.take(net(11, Message([Value("Int32", 11).raw()], DELTA, RAW, sequence=11, status=0, indexes=[1], configured=32),
-               raw_message(all_types(11), 11)), "taken 2 2 1", rows={1: all_types(11)})
+               raw_message(all_types(11), 11)), "taken 2 2 1", rows={1: all_types(11)}, faults={0: "BadEncoding"})
     t.case("a time stamp in the header moves all slots")
-    t.take(both(12, timestamp=STAMP), "taken 2 2 2")
+    t.take(both(12, timestamp=STAMP), "taken 2 2 2", faults={0: "NotValid", 1: "NotValid"})
     t.case("cut within the second message")
-    t.take(both(12).bytes()[:80], "taken 2 2 1", rows={0: net_rows(12)[0]})
+    t.take(both(12).bytes()[:80], "taken 2 2 1", rows={0: net_rows(12)[0]}, faults={1: "NoSlot"})
     t.case("cut within the first message")
-    t.take(both(13).bytes()[:40], "taken 2 2 2")
+    t.take(both(13).bytes()[:40], "taken 2 2 2", faults={0: "NoSlot", 1: "NoSlot"})
     for text, datagram in [("another group", both(14, group=2)), ("another publisher", both(14, publisher=(UINT16, 3)))]:
         t.stays(text, datagram, "NOT_OURS")
     t.part("The same datagrams for a dynamic read group: RawData outside a fixed layout isn't read")
     t.subscriber("models/foreign/net-dynamic.toml", 2)
-    t.stays("both messages", both(1), "taken 2 2 2")
-    t.stays("the first one alone", net(1, raw_message(simple(True, 1, 1, 1), 1), writers=[1]), "taken 1 1 1")
+    t.stays("both messages", both(1), "taken 2 2 2", faults={0: "BadEncoding", 1: "BadEncoding"})
+    t.bad("the first one alone", net(1, raw_message(simple(True, 1, 1, 1), 1), writers=[1]), "BadEncoding")
     t.case("Variants in their place are read")
     variants = [Message([variant(it) for it in row], sequence=2, status=0) for row in net_rows(2).values()]
     t.take(net(2, *variants), "taken 2 2 0", rows=net_rows(2))
@@ -341,20 +349,22 @@ def periodic_fixed(t):
         t.case(f"both messages, number {number}")
         t.take(axes(number), "taken 2 2 0", rows=axes_rows(number))
     t.case("the number before comes late")
-    t.take(axes(0), "taken 2 2 0")
+    t.take(axes(0), "taken 2 2 0", passed={0: "older", 1: "older"})
     t.case("the first message's status is Bad, and read past")
     t.take(controller(2, slot(axis(2, False), 2, status=BAD >> 16), slot(motor(2), 2)), "taken 2 2 0", rows={0: axis(2, False), 1: motor(2)})
     t.case("the first message isn't valid")
-    t.take(controller(3, slot(axis(3, False), 3, valid=False), slot(motor(3), 3)), "taken 2 2 1", rows={1: motor(3)})
+    t.take(controller(3, slot(axis(3, False), 3, valid=False), slot(motor(3), 3)), "taken 2 2 1", rows={1: motor(3)},
+           faults={0: "NotValid"})
     t.case("the first slot is zeros, as of a writer that is off")
-    t.take(controller(4, bytes(10), slot(motor(4), 4)), "taken 2 2 1", rows={1: motor(4)})
+    t.take(controller(4, bytes(10), slot(motor(4), 4)), "taken 2 2 1", rows={1: motor(4)}, faults={0: "NotValid"})
     t.case("without statuses, each filled up to its slot")
     t.take(controller(5, slot(axis(5, False), 5, status=None, configured=10), slot(motor(5), 5, status=None, configured=9)), "taken 2 2 0",
            rows={0: axis(5, False), 1: motor(5)})
     t.case("without statuses, and not filled up: the second message begins two bytes early")
-    t.take(controller(6, slot(axis(6, False), 6, status=None), slot(motor(6), 6, status=None)), "taken 2 2 2")
+    t.take(controller(6, slot(axis(6, False), 6, status=None), slot(motor(6), 6, status=None)), "taken 2 2 2",
+           faults={0: "Trailing", 1: "NoSlot"})
     t.case("Variants don't fit the slots")
-    t.take(controller(6, Message([variant(it) for it in axis(6, True)], sequence=6, status=0)), "taken 2 2 2")
+    t.take(controller(6, Message([variant(it) for it in axis(6, True)], sequence=6, status=0)), "taken 2 2 2", faults={0: "Short", 1: "NoSlot"})
     for text, more in [("another GroupVersion", dict(group_version=600_000_001)), ("no GroupVersion", dict(group_version=None)),
                        ("another group", dict(group=4)), ("another publisher", dict(publisher=(UINT16, 12)))]:
         t.stays(text, axes(7, **more), "NOT_OURS")
@@ -363,7 +373,8 @@ def periodic_fixed(t):
         t.stays(f"the first {length} bytes", axes(7).bytes()[:length], "HEADER_SHORT")
     for number, length, bad in [(7, 15, 2), (7, 24, 2), (7, 25, 1), (8, 33, 1)]:
         t.case(f"the first {length} bytes")
-        t.take(axes(number).bytes()[:length], f"taken 2 2 {bad}", rows={0: axes_rows(number)[0]} if bad == 1 else None)
+        t.take(axes(number).bytes()[:length], f"taken 2 2 {bad}", rows={0: axes_rows(number)[0]} if bad == 1 else None,
+               faults={1: "NoSlot"} if bad == 1 else {0: "NoSlot", 1: "NoSlot"})
     two_in_a_cycle(t)
 
 
@@ -377,9 +388,9 @@ def two_in_a_cycle(t):
     t.take(other, "taken 2 2 0", rows={0: axis(1_000_000, False), 1: motor(99)})
     t.case("where both count their messages apart, the second one's are late")
     other = controller(3, slot(axis(1_000_000, False), 1), slot(motor(99), 1), number=2)
-    t.take(other, "taken 2 2 0")
+    t.take(other, "taken 2 2 0", passed={0: "older", 1: "older"})
     t.case("a second NetworkMessage of one Double: its first five bytes are read as ours, and the second slot isn't there")
-    t.take(controller(4, slot([Value("Double", -1.5)], 3), number=2), "taken 2 2 1", rows={0: axis(0, False)})
+    t.take(controller(4, slot([Value("Double", -1.5)], 3), number=2), "taken 2 2 1", rows={0: axis(0, False)}, faults={1: "NoSlot"})
 
 
 CONTROLLER_KEYS = Keys(4, bytes(range(32)), bytes(range(0x20, 0x40)), bytes(range(0x40, 0x44)))
@@ -396,11 +407,11 @@ def periodic_fixed_encrypted(t):
     t.stays("the number 3 again", sent(3), "REPEATED")
     t.stays("signed alone", sent(4, encrypted=False), "MODE")
     t.stays("no security", controller(4, slot(axis(4, True), 4)), "MODE")
-    t.bad("the first block's number 0", sent(4, first_block=0))
+    t.bad("the first block's number 0", sent(4, first_block=0), "any")
     t.stays("the first 40 bytes", sent(5).bytes()[:40], "NO_SIGNATURE")
     t.stays("the first 70 bytes", sent(5).bytes()[:70], "SIGNATURE")
     t.bad("a slot that isn't there: the message is cut, and signed", controller(5, slot(axis(5, True), 5).bytes()[:8],
-                                                                               security=Security(CONTROLLER_KEYS, b"abcd", 5)))
+                                                                               security=Security(CONTROLLER_KEYS, b"abcd", 5)), "NoSlot")
     t.holds("the number 6", sent(6), *axis(6, True))
 
 
@@ -433,7 +444,7 @@ def dynamic(t):
     t.stays("keep-alive, the next number is 15", dynamic_of(tank_message([], 15, kind=KEEP_ALIVE)))
     t.holds("key frame 15 with both versions", dynamic_of(tank_message(tank(4, b"e"), 15, major=2)), *tank(4, b"e"))
     t.holds("key frame 16 with a time stamp of its own", dynamic_of(tank_message(tank(5, b"f"), 16, timestamp=STAMP)), *tank(5, b"f"))
-    t.stays("delta frame 15 late", dynamic_of(tank_message(tank(6, b"")[:1], 15, kind=DELTA, indexes=[0])))
+    t.stays("delta frame 15 late", dynamic_of(tank_message(tank(6, b"")[:1], 15, kind=DELTA, indexes=[0])), passed="older")
     t.stays("delta frame 18 where 17 is due", dynamic_of(tank_message(tank(7, b"")[:1], 18, kind=DELTA, indexes=[0])), waits={0: "gap"})
     t.stays("delta frame 19", dynamic_of(tank_message(tank(8, b"")[:1], 19, kind=DELTA, indexes=[0])))
     t.stays("keep-alive, the next number is 20", dynamic_of(tank_message([], 20, kind=KEEP_ALIVE)))
@@ -441,16 +452,16 @@ def dynamic(t):
     t.stays("keep-alive, the next number is 23 where 21 is due", dynamic_of(tank_message([], 23, kind=KEEP_ALIVE)), waits={0: "gap"})
     t.holds("key frame 23", dynamic_of(tank_message(tank(10, b"g"), 23)), *tank(10, b"g"))
     t.bad("delta frame 24, its field a StatusCode", dynamic_of(Message([variant(Value("StatusCode", BAD_COMMUNICATION))], DELTA, sequence=24,
-                                                                       status=0, minor=0, indexes=[0])))
-    t.stays("so behind it the delta frame 25 finds a number missing",
+                                                                       status=0, minor=0, indexes=[0])), "BadValue")
+    t.stays("so after it the delta frame 25 finds a number missing",
             dynamic_of(tank_message(tank(11, b"")[:1], 25, kind=DELTA, indexes=[0])), waits={0: "gap"})
-    t.bad("a label of 17 bytes", dynamic_of(tank_message(tank(12, bytes(range(0x61, 0x72))), 26)))
-    t.bad("a label that isn't UTF-8", dynamic_of(tank_message(tank(12, b"\xff"), 26)))
-    t.bad("a delta frame's index 2", dynamic_of(tank_message(tank(12, b"")[:1], 26, kind=DELTA, indexes=[2])))
+    t.bad("a label of 17 bytes", dynamic_of(tank_message(tank(12, bytes(range(0x61, 0x72))), 26)), "BadValue")
+    t.bad("a label that isn't UTF-8", dynamic_of(tank_message(tank(12, b"\xff"), 26)), "BadValue")
+    t.bad("a delta frame's index 2", dynamic_of(tank_message(tank(12, b"")[:1], 26, kind=DELTA, indexes=[2])), "BadIndex")
     t.stays("a delta frame's index 2, of a greater minor version", dynamic_of(tank_message(tank(12, b"")[:1], 26, kind=DELTA, indexes=[2],
                                                                                            minor=1)))
-    t.stays("a key frame of major version 1", dynamic_of(tank_message(tank(12, b"h"), 27, major=1)))
-    t.stays("a key frame without a number", dynamic_of(tank_message(tank(12, b"h"), None)))
+    t.stays("a key frame of major version 1", dynamic_of(tank_message(tank(12, b"h"), 27, major=1)), passed="major")
+    t.stays("a key frame without a number", dynamic_of(tank_message(tank(12, b"h"), None)), passed="unnumbered")
     t.holds("key frame 27", dynamic_of(tank_message(tank(13, b"i"), 27)), *tank(13, b"i"))
     t.case("two messages of the writer in one datagram")
     t.take(dynamic_of(tank_message(tank(14, b"j"), 28), tank_message(tank(15, b"")[:1], 29, kind=DELTA, indexes=[0]), writers=[40, 40]),
@@ -459,7 +470,7 @@ def dynamic(t):
     t.stays("another publisher", dynamic_of(tank_message(tank(17, b"k"), 31), publisher=(UINT64, 1_000_000_000_003)), "NOT_OURS")
     t.case("the timeout passes")
     t.expire(3000, waits={0: "timeout"})
-    t.stays("a late number behind it is taken for the first one", dynamic_of(tank_message(tank(18, b"")[:1], 5, kind=DELTA, indexes=[0])))
+    t.stays("a late number after it is taken for the first one", dynamic_of(tank_message(tank(18, b"")[:1], 5, kind=DELTA, indexes=[0])))
     t.holds("and a key frame holds", dynamic_of(tank_message(tank(19, b"l"), 6)), *tank(19, b"l"))
 
 
@@ -485,17 +496,17 @@ def s2opc(t):
     row = measures(False, 8, b"")
     t.holds("key frame 2 with both versions", s2opc_of(row, 2, minor=0), *row)
     t.holds("key frame 3 with flags that have no version", s2opc_of(row, 3, major=None), *row)
-    t.stays("key frame 3 again", s2opc_of(measures(True, 9, b"x"), 3))
-    t.stays("no number", s2opc_of(measures(True, 9, b"x"), None))
-    t.stays("major version 2", s2opc_of(measures(True, 9, b"x"), 4, major=2))
+    t.stays("key frame 3 again", s2opc_of(measures(True, 9, b"x"), 3), passed="older")
+    t.stays("no number", s2opc_of(measures(True, 9, b"x"), None), passed="unnumbered")
+    t.stays("major version 2", s2opc_of(measures(True, 9, b"x"), 4, major=2), passed="major")
     t.stays("keep-alive, the next number is 4", s2opc_of([], 4, kind=KEEP_ALIVE))
     t.stays("another version of the group", s2opc_of(row, 4, group_version=2), "NOT_OURS")
     t.stays("another group", s2opc_of(row, 4, group=15), "NOT_OURS")
     t.stays("the id as a UInt32", s2opc_of(row, 4, publisher=(UINT32, 42)), "NOT_OURS")
     t.stays("secured", s2opc_of(row, 4, security=Security(ZERO_KEYS, bytes(4), 1)), "MODE")
     t.stays("another writer", s2opc_of(row, 4, writers=[51]), "taken 1 0 0")
-    t.bad("a Byte for the Boolean", s2opc_of([Value("Byte", 1), u32(7), Value("String", b"x")], 4))
-    t.bad("two fields of three", s2opc_of(row[:2], 4))
+    t.bad("a Byte for the Boolean", s2opc_of([Value("Byte", 1), u32(7), Value("String", b"x")], 4), "BadValue")
+    t.bad("two fields of three", s2opc_of(row[:2], 4), "WrongCount")
     t.holds("key frame 4", s2opc_of(measures(True, 10, b"y"), 4), *measures(True, 10, b"y"))
 
 
@@ -515,15 +526,17 @@ def bad_fields(t):
             (celsius, BAD_COMMUNICATION), u32(2))
     t.holds("DataValue whose status is Uncertain, with stamps", sensor_of(2, data_value(celsius, UNCERTAIN, STAMP, 5, STAMP, 6), data_value(u32(3))),
             (celsius, UNCERTAIN), u32(3))
-    t.holds("Variants, which are Good", sensor_of(3, variant(celsius), variant(u32(4)), encoding=0), celsius, u32(4))
-    for text, field in [("DataValue of a status alone, which has no value", data_value(None, BAD)),
-                        ("DataValue whose value is a StatusCode", data_value(Value("StatusCode", BAD))),
-                        ("DataValue whose value is a null Variant, and a status", b"\x03\x00" + struct.pack("<I", BAD))]:
-        t.bad(text, sensor_of(4, field, data_value(u32(5))))
-    t.bad("a StatusCode in the place of the first value", sensor_of(4, variant(Value("StatusCode", BAD)), variant(u32(5)), encoding=0))
-    t.bad("a null Variant in the place of the second value", sensor_of(4, variant(celsius), variant(None), encoding=0))
+    t.holds("Variants, which are Good", sensor_of(3, variant(celsius), variant(u32(4)), encoding=VARIANT), celsius, u32(4))
+    for text, field, fault in [("DataValue of a status alone, which has no value", data_value(None, BAD), "BadValue"),
+                               ("DataValue whose value is a StatusCode", data_value(Value("StatusCode", BAD)), "BadValue"),
+                               ("DataValue whose value is a null Variant, and a status", b"\x03\x00" + struct.pack("<I", BAD), "KindOut")]:
+        t.bad(text, sensor_of(4, field, data_value(u32(5))), fault)
+    t.bad("a StatusCode in the place of the first value", sensor_of(4, variant(Value("StatusCode", BAD)), variant(u32(5)), encoding=VARIANT),
+          "BadValue")
+    t.bad("a null Variant in the place of the second value", sensor_of(4, variant(celsius), variant(None), encoding=VARIANT), "KindOut")
     t.holds("until it is Good again", sensor_of(5, data_value(celsius), data_value(u32(6))), celsius, u32(6))
-    t.bad("a StatusCode, and nothing else for the timeout", sensor_of(6, variant(Value("StatusCode", BAD)), variant(u32(7)), encoding=0))
+    t.bad("a StatusCode, and nothing else for the timeout", sensor_of(6, variant(Value("StatusCode", BAD)), variant(u32(7)), encoding=VARIANT),
+          "BadValue")
     t.case("the timeout lets the old row go")
     t.expire(490, waits={0: "timeout"})
     t.holds("DataValue whose status is Bad, with a value of zero", sensor_of(7, data_value(Value("Double", 0), BAD), data_value(u32(8))),
@@ -548,19 +561,19 @@ def peer(*messages, **more):
 def numbers(t):
     t.part("Messages with no number, with older ones, and with some missing")
     t.subscriber("models/foreign/plain.toml", 1)
-    t.stays("no number, before any row", peer(plain_message(plain_row(1), None)))
+    t.stays("no number, before any row", peer(plain_message(plain_row(1), None)), passed="unnumbered")
     t.holds("number 16383", peer(plain_message(plain_row(2), 16383)), *plain_row(2))
     for number in (16383, 16382, 0, 65535, 32768):
-        t.stays(f"number {number} counts as older", peer(plain_message(plain_row(3), number)))
+        t.stays(f"number {number} counts as older", peer(plain_message(plain_row(3), number)), passed="older")
     t.holds("number 32767 counts as newer", peer(plain_message(plain_row(3), 32767)), *plain_row(3))
-    t.stays("no number", peer(plain_message(plain_row(4), None)))
-    t.stays("no number and major version 5", peer(plain_message(plain_row(4), None, major=5)))
-    t.stays("major version 5", peer(plain_message(plain_row(4), 32768, major=5)))
-    t.stays("a delta frame of major version 7", peer(plain_message(plain_row(4)[:1], 32768, major=7, kind=DELTA, indexes=[0])))
+    t.stays("no number", peer(plain_message(plain_row(4), None)), passed="unnumbered")
+    t.stays("no number and major version 5", peer(plain_message(plain_row(4), None, major=5)), passed="major")
+    t.stays("major version 5", peer(plain_message(plain_row(4), 32768, major=5)), passed="major")
+    t.stays("a delta frame of major version 7", peer(plain_message(plain_row(4)[:1], 32768, major=7, kind=DELTA, indexes=[0])), passed="major")
     t.holds("the number that is due, a delta frame", peer(plain_message(plain_row(4)[:1], 32768, kind=DELTA, indexes=[0])), *plain_row(4))
-    t.stays("keep-alive without a number", peer(plain_message([], None, kind=KEEP_ALIVE)))
-    t.stays("a publisher that begins at 0 again is older", peer(plain_message(plain_row(5), 0)))
-    t.stays("and at 1", peer(plain_message(plain_row(6), 1)))
+    t.stays("keep-alive without a number", peer(plain_message([], None, kind=KEEP_ALIVE)), passed="unnumbered")
+    t.stays("a publisher that begins at 0 again is older", peer(plain_message(plain_row(5), 0)), passed="older")
+    t.stays("and at 1", peer(plain_message(plain_row(6), 1)), passed="older")
     t.case("until the timeout passes")
     t.expire(2000, waits={0: "timeout"})
     t.holds("then the number 2 holds", peer(plain_message(plain_row(7), 2)), *plain_row(7))
@@ -589,20 +602,20 @@ def chunks(t):
     t.stays("a chunk of number 3, which gives it up", chunk(3, whole[3], 0, 150))
     t.stays("a chunk of number 2 again", chunk(2, whole[2], 150, None))
     t.holds("the rest of number 3", chunk(3, whole[3], 150, None), *row[3])
-    t.bad("a chunk of no bytes", chunk(4, whole[4], 0, 0))
-    t.bad("a chunk past the message's size", chunk(4, whole[4], 0, 150, size=149))
-    t.bad("a message of 4,097 bytes", chunk(4, whole[4], 0, 150, size=4097))
+    t.bad("a chunk of no bytes", chunk(4, whole[4], 0, 0), "BadRange")
+    t.bad("a chunk past the message's size", chunk(4, whole[4], 0, 150, size=149), "BadRange")
+    t.bad("a message of 4,097 bytes", chunk(4, whole[4], 0, 150, size=4097), "TooLong")
     t.stays("a chunk of number 4", chunk(4, whole[4], 0, 150))
-    t.bad("another size of the same message", chunk(4, whole[4], 150, 300, size=len(whole[4]) + 1))
+    t.bad("another size of the same message", chunk(4, whole[4], 150, 300, size=len(whole[4]) + 1), "Differs")
     second = chunk(4, whole[4], 150, 300)
     length = len(second.front()) + 10
-    t.bad("a chunk that ends early", second.bytes()[:-1])
-    t.bad("a chunk that ends within its length", second.bytes()[:length + 3])
-    t.bad("a chunk whose length is -1", second.bytes()[:length] + b"\xff\xff\xff\xff")
-    t.bad("a chunk whose length is -2", second.bytes()[:length] + b"\xfe\xff\xff\xff")
+    t.bad("a chunk that ends early", second.bytes()[:-1], "ChunkShort")
+    t.bad("a chunk that ends within its length", second.bytes()[:length + 3], "ChunkShort")
+    t.bad("a chunk whose length is -1", second.bytes()[:length] + b"\xff\xff\xff\xff", "BadRange")
+    t.bad("a chunk whose length is -2", second.bytes()[:length] + b"\xfe\xff\xff\xff", "ChunkBadLength")
     t.stays("a chunk of another writer", chunk(4, whole[4], 150, None, writer=4), "taken 1 0 0")
-    t.holds("what was missing, and bytes behind it", chunk(4, whole[4], 150, None).bytes() + b"\x01\x02", *row[4])
-    t.bad("a message of another data set, joined", chunk(5, plain_message([u32(1)], 5).bytes(), 0, None))
+    t.holds("what was missing, and bytes after it", chunk(4, whole[4], 150, None).bytes() + b"\x01\x02", *row[4])
+    t.bad("a message of another data set, joined", chunk(5, plain_message([u32(1)], 5).bytes(), 0, None), "WrongCount")
     t.stays("a chunk without a payload header", peer(writers=None, messages=[whole[4]], more_flags2=1), "RESERVED")
     t.holds("the next message, whole", peer(plain_message(plain_row(9), 6)), *plain_row(9))
 
@@ -673,9 +686,9 @@ def kinds(t):
         t.holds("RawData", slot_of(Message(raw, encoding=RAW, sequence=2 * number, configured=120)), *row, group=1)
         t.holds("Variants in a slot", slot_of(Message([variant(it) for it in row], sequence=2 * number + 1, configured=120)), *row, group=1)
     t.holds("a Boolean of the byte ff is true", kinds_of(Message([b"\x01\xff"] + [variant(it) for it in ZEROS[1:]], sequence=7)), FIRST[0], *ZEROS[1:])
-    t.stays("RawData whose String has 9 bytes of 8", slot_of(Message([it.raw(8) for it in ZEROS[:11]] + [b"\x09\x00\x00\x00"], encoding=RAW,
-                                                                     sequence=9, configured=120)), "taken 1 1 1", group=1)
-    t.stays("RawData behind a payload header, for the dynamic read group", kinds_of(Message(raw, encoding=RAW, sequence=9)), "taken 1 1 1")
+    t.bad("RawData whose String has 9 bytes of 8", slot_of(Message([it.raw(8) for it in ZEROS[:11]] + [b"\x09\x00\x00\x00"], encoding=RAW,
+                                                                   sequence=9, configured=120)), "RawBadLength", group=1)
+    t.bad("RawData after a payload header, for the dynamic read group", kinds_of(Message(raw, encoding=RAW, sequence=9)), "BadEncoding")
 
 
 # ---------------------------------------------------------------- numbers of a group that are counted apart
@@ -838,7 +851,7 @@ def pulled_keys(t):
     t.stays("the configuration's own key isn't in the ring", from_peer(Keys(0, bytes(32), bytes(16), bytes(4)), 1), "UNKNOWN_TOKEN")
     t.holds("token 7", from_peer(keys[0], 1), u32(701))
     t.holds("token 8, before its moment", from_peer(keys[1], 1), u32(801))
-    t.stays("token 7 behind it", from_peer(keys[0], 2), "OLD_TOKEN")
+    t.stays("token 7 after it", from_peer(keys[0], 2), "OLD_TOKEN")
     t.holds("token 9", from_peer(keys[2], 1), u32(901))
     t.stays("token 10, which wasn't pulled", from_peer(served(10), 1), "UNKNOWN_TOKEN")
     pulled_refused(t, answer)
@@ -851,7 +864,7 @@ def pulled_refused(t, answer):
                          ("aes128", dict(next=float("nan"))), ("aes128", dict(lifetime=-1.0)), ("aes128", dict(lifetime=float("inf"))),
                          ("aes128", dict(keys=[]))]:
         t.pull("subscriber", 0, 5000, policy, 0, **{**answer, **more})
-    t.case("tokens that begin anew behind the greatest one, and more keys than a ring has")
+    t.case("tokens that begin anew after the greatest one, and more keys than a ring has")
     t.pull("subscriber", 0, 5000, "aes128", 2, **{**answer, "first": 2**32 - 2})
     t.pull("subscriber", 0, 5000, "aes128", 16, **{**answer, "keys": answer["keys"] * 6})
     t.case("a clock that stands at 0, and spans below a millisecond")

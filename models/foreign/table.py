@@ -5,7 +5,7 @@ datagrams hexadecimal; groups, readers, data sets and fields count from 0; momen
     publisher FILE                       a publisher
     take GROUP MOMENT HEX ANSWER         a datagram comes: `taken PARTS MATCHED BAD`, or the status of C that refuses it
     expire MOMENT                        timers are looked at
-    holds GROUP READER VALUE ..          the row, a value for each field: KIND=BYTES, as on the wire without a length, !STATUS behind it
+    holds GROUP READER VALUE ..          the row, a value for each field: KIND=BYTES, as on the wire without a length, !STATUS after it
     waits GROUP READER WHY               there is no row, and why
     set SET FIELD VALUE                  a field of the publisher has this value
     sends MOMENT HEX                     the next datagram that the publisher gives at the moment; `none` where no other is due
@@ -55,8 +55,9 @@ class Table:
         self.cases += 1
         self.lines.append(f"# {text}")
 
-    def take(self, datagram, answer, group=0, later=10, rows=None, waits=None):
-        """A datagram comes. `rows` has what readers of the group hold then, `waits` why they hold none; the others stay."""
+    def take(self, datagram, answer, group=0, later=10, rows=None, waits=None, faults=None, passed=None):
+        """A datagram comes. `rows` has what readers of the group hold then, `waits` why they hold none, `faults` why they couldn't read
+        their parts, `passed` why they passed over their messages; the others stay."""
         self.now += later
         self.datagrams += 1
         data = datagram if isinstance(datagram, bytes) else datagram.bytes()
@@ -84,13 +85,14 @@ class Table:
         self.case(text)
         self.take(datagram, "taken 1 1 0", group, rows={reader: list(row)}, **more)
 
-    def stays(self, text, datagram, answer="taken 1 1 0", **more):
-        """A datagram that changes no row: passed over, a part that can't be read, or refused."""
+    def stays(self, text, datagram, answer="taken 1 1 0", passed=None, **more):
+        """A datagram that changes no row: refused, or of one message, which is passed over or brings nothing."""
         self.case(text)
-        self.take(datagram, answer, **more)
+        self.take(datagram, answer, passed={0: passed} if passed else None, **more)
 
-    def bad(self, text, datagram, **more):
-        self.stays(text, datagram, "taken 1 1 1", **more)
+    def bad(self, text, datagram, fault, **more):
+        """A datagram of one message, which the first reader of the group can't read."""
+        self.stays(text, datagram, "taken 1 1 1", faults={0: fault}, **more)
 
     def pull(self, side, index, moment, policy, count, uri, first, next, lifetime, keys):
         self.lines.append(f"pull {side} {index} {moment} {policy} {count} {uri} {first} {next} {lifetime}" + "".join(f" {it.hex() or '-'}" for it in keys))
