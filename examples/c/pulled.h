@@ -36,9 +36,10 @@ static inline void divided(const uint8_t *key, size_t encrypting, struct uap_key
 static inline size_t pulled_sets(const struct pulled *answer, bool aes256, uint64_t now_ms, struct uap_key_set *sets) {
     const char *uri = aes256 ? "http://opcfoundation.org/UA/SecurityPolicy#PubSub-Aes256-CTR"
                              : "http://opcfoundation.org/UA/SecurityPolicy#PubSub-Aes128-CTR";
-    size_t encrypting = aes256 ? 32 : 16, count = answer->count < MOST_KEY_SETS ? answer->count : MOST_KEY_SETS;
+    size_t encrypting = aes256 ? 32 : 16, count = answer->count;
     uint64_t next = whole_ms(answer->time_to_next_key), lifetime = whole_ms(answer->key_lifetime);
     if (strcmp(answer->policy_uri, uri) != 0 || next == 0 || lifetime == 0) return 0;
+    if (count > MOST_KEY_SETS) count = MOST_KEY_SETS;
     for (size_t i = 0; i < count; i++) {
         if (answer->lengths[i] != SIGNING_BYTES + encrypting + NONCE_BYTES) return 0;
         if (i > UINT32_MAX - answer->first_token) return i;       /* the tokens after it begin anew at 1: ask again under the last one */

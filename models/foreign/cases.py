@@ -9,7 +9,7 @@ usage: cases.py            the table, as models/foreign/table has it; table.py h
 import struct, sys, uuid
 from table import Table
 from uadp import (BAD, BAD_COMMUNICATION, BYTE, DATA_VALUE, DELTA, EVENT, KEEP_ALIVE, RAW, RESERVED, STRING, UINT16, UINT32, UINT64,
-                  UNCERTAIN, VARIANT, Keys, Message, Network, Security, Value, array, bit, data_value, variant)
+                  UNCERTAIN, VARIANT, Keys, Message, Network, Security, Value, array, bit, data_value, of_raw, variant)
 
 STAMP = 134_116_128_000_000_000      # 2025-12-31 as a DateTime, in steps of 100 ns since 1601
 
@@ -287,11 +287,15 @@ def net_refused(t):
     third = raw_message(all_types(9), 9)
     t.take(net(9, raw_message(simple(True, 9, 9, 9), 9), third, third, writers=[1, 2, 3]), "taken 2 2 2",
            faults={0: "NotValid", 1: "NotValid"})
+    t.case("the writers in the other order: the first slot's message has bytes too many, and the second one's are held as another row")
+    mistaken = of_raw([it.kind for it in all_types(9)], b"".join(it.raw() for it in simple(True, 9, 9, 9)) + bytes(10))
+    t.take(net(9, raw_message(all_types(9), 9), raw_message(simple(True, 9, 9, 9), 9), writers=[2, 1]), "taken 2 2 1", rows={1: mistaken},
+           faults={0: "Trailing"})
     t.case("the second message isn't valid")
     t.take(net(9, raw_message(simple(True, 9, 9, 9), 9), raw_message(all_types(9), 9, valid=False)), "taken 2 2 1",
            rows={0: simple(True, 9, 9, 9)}, faults={1: "NotValid"})
     t.case("a keep-alive of the second writer, with the number that comes next")
-    t.take(net(10, raw_message(simple(True, 10, 10, 10), 10), Message(kind=KEEP_ALIVE, sequence=9, status=0, configured=32)), "taken 2 2 0",
+    t.take(net(10, raw_message(simple(True, 10, 10, 10), 10), Message(kind=KEEP_ALIVE, sequence=10, status=0, configured=32)), "taken 2 2 0",
            rows={0: simple(True, 10, 10, 10)})
     t.case("a delta frame of RawData in the first slot")
     t.take(net(11, Message([Value("Int32", 11).raw()], DELTA, RAW, sequence=11, status=0, indexes=[1], configured=32),

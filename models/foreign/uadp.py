@@ -37,6 +37,15 @@ class Value:
         return self.bytes() + bytes(filled)
 
 
+def of_raw(kinds, data):
+    """The values of these kinds, none of them a text or a Guid, that RawData has in this order."""
+    values, at = [], 0
+    for kind in kinds:
+        values.append(Value(kind, *struct.unpack_from(FORMS[kind], data, at)))
+        at += struct.calcsize(FORMS[kind])
+    return values
+
+
 def string(content):
     return struct.pack("<i", -1) if content is None else struct.pack("<i", len(content)) + content
 
