@@ -282,7 +282,7 @@ def net_default(t):
 
 def net_refused(t):
     t.case("the first message alone: the header is shorter, and no slot is whole")
-    t.take(net(9, raw_message(simple(True, 9, 9, 9), 9), writers=[1]), "taken 2 2 2", faults={0: "NoSlot", 1: "NoSlot"})
+    t.take(net(9, raw_message(simple(True, 9, 9, 9), 9), writers=[1]), "taken 2 2 2", faults={0: "Missing", 1: "Missing"})
     t.case("three messages: the header is longer, and both slots begin amidst others")
     third = raw_message(all_types(9), 9)
     t.take(net(9, raw_message(simple(True, 9, 9, 9), 9), third, third, writers=[1, 2, 3]), "taken 2 2 2",
@@ -303,9 +303,9 @@ def net_refused(t):
     t.case("a time stamp in the header moves all slots")
     t.take(both(12, timestamp=STAMP), "taken 2 2 2", faults={0: "NotValid", 1: "NotValid"})
     t.case("cut within the second message")
-    t.take(both(12).bytes()[:80], "taken 2 2 1", rows={0: net_rows(12)[0]}, faults={1: "NoSlot"})
+    t.take(both(12).bytes()[:80], "taken 2 2 1", rows={0: net_rows(12)[0]}, faults={1: "Missing"})
     t.case("cut within the first message")
-    t.take(both(13).bytes()[:40], "taken 2 2 2", faults={0: "NoSlot", 1: "NoSlot"})
+    t.take(both(13).bytes()[:40], "taken 2 2 2", faults={0: "Missing", 1: "Missing"})
     for text, datagram in [("another group", both(14, group=2)), ("another publisher", both(14, publisher=(UINT16, 3)))]:
         t.stays(text, datagram, "NOT_OURS")
     t.part("The same datagrams for a dynamic read group: RawData outside a fixed layout isn't read")
@@ -366,9 +366,9 @@ def periodic_fixed(t):
            rows={0: axis(5, False), 1: motor(5)})
     t.case("without statuses, and not filled up: the second message begins two bytes early")
     t.take(controller(6, slot(axis(6, False), 6, status=None), slot(motor(6), 6, status=None)), "taken 2 2 2",
-           faults={0: "Trailing", 1: "NoSlot"})
+           faults={0: "Trailing", 1: "Missing"})
     t.case("Variants don't fit the slots")
-    t.take(controller(6, Message([variant(it) for it in axis(6, True)], sequence=6, status=0)), "taken 2 2 2", faults={0: "Short", 1: "NoSlot"})
+    t.take(controller(6, Message([variant(it) for it in axis(6, True)], sequence=6, status=0)), "taken 2 2 2", faults={0: "Short", 1: "Missing"})
     for text, more in [("another GroupVersion", dict(group_version=600_000_001)), ("no GroupVersion", dict(group_version=None)),
                        ("another group", dict(group=4)), ("another publisher", dict(publisher=(UINT16, 12)))]:
         t.stays(text, axes(7, **more), "NOT_OURS")
@@ -378,7 +378,7 @@ def periodic_fixed(t):
     for number, length, bad in [(7, 15, 2), (7, 24, 2), (7, 25, 1), (8, 33, 1)]:
         t.case(f"the first {length} bytes")
         t.take(axes(number).bytes()[:length], f"taken 2 2 {bad}", rows={0: axes_rows(number)[0]} if bad == 1 else None,
-               faults={1: "NoSlot"} if bad == 1 else {0: "NoSlot", 1: "NoSlot"})
+               faults={1: "Missing"} if bad == 1 else {0: "Missing", 1: "Missing"})
     two_in_a_cycle(t)
 
 
@@ -394,7 +394,7 @@ def two_in_a_cycle(t):
     other = controller(3, slot(axis(1_000_000, False), 1), slot(motor(99), 1), number=2)
     t.take(other, "taken 2 2 0", passed={0: "older", 1: "older"})
     t.case("a second NetworkMessage of one Double: its first five bytes are read as ours, and the second slot isn't there")
-    t.take(controller(4, slot([Value("Double", -1.5)], 3), number=2), "taken 2 2 1", rows={0: axis(0, False)}, faults={1: "NoSlot"})
+    t.take(controller(4, slot([Value("Double", -1.5)], 3), number=2), "taken 2 2 1", rows={0: axis(0, False)}, faults={1: "Missing"})
 
 
 CONTROLLER_KEYS = Keys(4, bytes(range(32)), bytes(range(0x20, 0x40)), bytes(range(0x40, 0x44)))
@@ -415,7 +415,7 @@ def periodic_fixed_encrypted(t):
     t.stays("the first 40 bytes", sent(5).bytes()[:40], "NO_SIGNATURE")
     t.stays("the first 70 bytes", sent(5).bytes()[:70], "SIGNATURE")
     t.bad("a slot that isn't there: the message is cut, and signed", controller(5, slot(axis(5, True), 5).bytes()[:8],
-                                                                               security=Security(CONTROLLER_KEYS, b"abcd", 5)), "NoSlot")
+                                                                               security=Security(CONTROLLER_KEYS, b"abcd", 5)), "Missing")
     t.holds("the number 6", sent(6), *axis(6, True))
 
 
