@@ -19,15 +19,6 @@ static const char *const reasons[] = {
     [UAP_WHY_JUMP] = "jump", [UAP_WHY_RESTARTED] = "restarted",
 };
 
-static const struct {
-    const char *name;
-    uint32_t kind;
-    size_t bytes;
-} kinds[] = {
-    {"Boolean", 1, 1}, {"SByte", 2, 1}, {"Byte", 3, 1}, {"Int16", 4, 2}, {"UInt16", 5, 2}, {"Int32", 6, 4}, {"UInt32", 7, 4},
-    {"Int64", 8, 8}, {"UInt64", 9, 8}, {"Float", 10, 4}, {"Double", 11, 8}, {"DateTime", 13, 8}, {"StatusCode", 19, 4},
-};
-
 static struct uap_handle subscriber = UAP_CLOSED_HANDLE, publisher = UAP_CLOSED_HANDLE;
 static unsigned line_number, datagrams, rows, wrong;
 
@@ -70,45 +61,52 @@ static struct value value_of(const char *word) {
     return value;
 }
 
+// The scalars: a field's bytes on the wire, which it has or is given.
+#define SCALARS(x)                                                                                                                          \
+    x(Boolean, bool, bool) x(SByte, i8, int8_t) x(Byte, u8, uint8_t) x(Int16, i16, int16_t) x(UInt16, u16, uint16_t) x(Int32, i32, int32_t) \
+    x(UInt32, u32, uint32_t) x(Int64, i64, int64_t) x(UInt64, u64, uint64_t) x(Float, f32_bits, uint32_t) x(Double, f64_bits, uint64_t)     \
+    x(DateTime, date_time, int64_t) x(StatusCode, status_code, uint32_t)
+
+static void laid(uint64_t word, size_t count, struct datagram *bytes) {
+    for (bytes->length = 0; bytes->length < count; word >>= 8) bytes->bytes[bytes->length++] = (uint8_t)word;
+}
+
 // A field as it is held, or false where the call says anything but UAP_OK.
-static bool held(uint8_t group, uint8_t reader, uint8_t field, const struct value *like, struct datagram *got) {
-    if (strcmp(like->kind, "String") == 0)
+static bool held(uint8_t group, uint8_t reader, uint8_t field, const char *kind, struct datagram *got) {
+#define HELD(name, call, type)                                                                        \
+    if (strcmp(kind, #name) == 0) {                                                                   \
+        type value = 0;                                                                               \
+        if (uap_get_##call(&subscriber, group, reader, field, &value) != UAP_OK) return false;        \
+        laid((uint64_t)value, sizeof value, got);                                                     \
+        return true;                                                                                  \
+    }
+    SCALARS(HELD)
+    if (strcmp(kind, "String") == 0)
         return uap_get_text(&subscriber, group, reader, field, (char *)got->bytes, sizeof got->bytes, &got->length) == UAP_OK;
-    if (strcmp(like->kind, "ByteString") == 0)
+    if (strcmp(kind, "ByteString") == 0)
         return uap_get_bytes(&subscriber, group, reader, field, got->bytes, sizeof got->bytes, &got->length) == UAP_OK;
-    if (strcmp(like->kind, "Guid") == 0) {
-        got->length = 16;
-        return uap_get_guid(&subscriber, group, reader, field, (struct uap_guid *)got->bytes) == UAP_OK;
-    }
-    for (size_t i = 0; i < sizeof kinds / sizeof *kinds; i++) {
-        if (strcmp(like->kind, kinds[i].name) != 0) continue;
-        uint64_t word;
-        if (uapubsub_get_scalar(&subscriber, group, reader, field, kinds[i].kind, &word) != UAP_OK) return false;
-        got->length = kinds[i].bytes;
-        for (size_t at = 0; at < got->length; at++, word >>= 8) got->bytes[at] = (uint8_t)word;
-        return true;
-    }
-    return false;
+    got->length = 16;
+    return strcmp(kind, "Guid") == 0 && uap_get_guid(&subscriber, group, reader, field, (struct uap_guid *)got->bytes) == UAP_OK;
 }
 
 static bool is_held(uint8_t group, uint8_t reader, uint8_t field, const char *word) {
     struct value value = value_of(word);
     struct datagram got = {.length = 0};
     uint32_t status = 0;
-    if (!held(group, reader, field, &value, &got) || got.length != value.bytes.length) return false;
+    if (!held(group, reader, field, value.kind, &got) || got.length != value.bytes.length) return false;
     if (memcmp(got.bytes, value.bytes.bytes, got.length) != 0) return false;
     return uap_get_field_status(&subscriber, group, reader, field, &status) == UAP_OK && status == value.status;
 }
 
 static void set(uint8_t data_set, uint8_t field, const char *word) {
     struct value value = value_of(word);
-    const struct datagram *bytes = &value.bytes;
+    uint64_t bits = little_endian_word(&value.bytes);
     uint32_t status = UAP_MISFIT;
-    if (strcmp(value.kind, "String") == 0) status = uapubsub_set_text(&publisher, data_set, field, bytes->bytes, bytes->length);
-    else if (strcmp(value.kind, "ByteString") == 0) status = uap_set_bytes(&publisher, data_set, field, bytes->bytes, bytes->length);
-    for (size_t i = 0; i < sizeof kinds / sizeof *kinds; i++)
-        if (strcmp(value.kind, kinds[i].name) == 0)
-            status = uapubsub_set_scalar(&publisher, data_set, field, kinds[i].kind, little_endian_word(bytes));
+    value.bytes.bytes[value.bytes.length] = 0;
+#define SET(name, call, type) \
+    if (strcmp(value.kind, #name) == 0) status = uap_set_##call(&publisher, data_set, field, (type)bits);
+    SCALARS(SET)
+    if (strcmp(value.kind, "String") == 0) status = uap_set_text(&publisher, data_set, field, (const char *)value.bytes.bytes);
     if (status != UAP_OK) fails("a field can't be set");
 }
 
