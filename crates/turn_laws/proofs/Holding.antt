@@ -10,6 +10,7 @@ use Rattle.message_guard.specs.Acceptance.{Accepted}
 use Rattle.message_guard.specs.Guards.{Setup}
 use Rattle.message_guard.specs.Protection.{keys_with}
 use Rattle.message_guard.specs.Senders.{SenderState}
+use Rattle.pubsub_model.specs.Cadence.{Answered}
 use Rattle.pubsub_model.specs.Frames.{PlacedFrame, is_silent, place_of}
 use Rattle.config_tables.specs.declared.words.Layout.{Layout}
 use Rattle.config_tables.specs.declared.words.Layout.TheVariants as layouts
@@ -35,11 +36,13 @@ use Rattle.group_laws.specs.TurnReading.{IsPartBy}
 use Rattle.group_laws.proofs.TurnTaken.{advanced-keys, advanced-used}
 use Rattle.session_model.specs.Deeds.{Deed, RefreshedBelow, RefreshedSet, CameTo, TookTurn, RenewedKeys, group_past, is_writer_below, is_writer_of, refreshed_where, sender_after, writer_indexes}
 use Rattle.session_laws.specs.Below.{TurnLaws}
-use Rattle.session_laws.specs.Pasts.{IsTurn, WasMade, settings_at}
+use Rattle.session_model.proofs.Deeds.{refreshed-keeps}
+use Rattle.session_laws.specs.Pasts.{IsTurn, WasMade, answered_by, settings_at}
 use Rattle.session_laws.specs.Readers.{IsPartFor, Making}
 use Rattle.session_laws.proofs.HeldRows.Passing.{IsPassOf}
-use Rattle.session_laws.proofs.Versions.Answering.{bytes_if}
+use Rattle.session_laws.proofs.Versions.Answering.{answer-now, answer-stays, bytes_if, refresh-same}
 use Rattle.turn_laws.specs.Sent.{NamesPlaces, given_on, sent_in}
+use Rattle.turn_laws.proofs.Contents.{AreSentPieces, IsSentBy, IsSentPiece, Sending, piece-sent, pieces-stay}
 use Rattle.turn_laws.proofs.Keyed.{first-accepted, other-ring, same-opening}
 use Rattle.turn_laws.proofs.Parts.{IsSentNow, part-sent, part-stays}
 use Rattle.turn_laws.proofs.Places.{good-to, loud-to, next_of}
@@ -96,7 +99,7 @@ made_with sent bytes = record { sent = sent; bytes = bytes }
 -- ---- a writer of a group, and a reader that is matched to it
 
 module _ (laws : TurnLaws) (config : Config) (k g w : ℕ) (readers : ReadGroupPart) (reader : ℕ) (place : ℕ → ℕ → ℕ → ℕ) (keys : List TokenKeys) (matched : IsMatchedTo config readers reader (group_at config g) w)
-    (keyed : (group_at config g).keygroup ≡ Some k) (numbered : is_numbered (seat_at (setting_by config readers).seats reader).part.numbering ≡ true) where
+    (keyed : (group_at config g).keygroup ≡ Some k) where
   abbrev group : GroupPart
   group = group_at config g
 
@@ -113,30 +116,47 @@ module _ (laws : TurnLaws) (config : Config) (k g w : ℕ) (readers : ReadGroupP
   abbrev its_verdict : Accepted → List ℕ → Result Opened Refusal
   its_verdict accepted datagram = verdict readers setup accepted datagram
 
+  abbrev pub sending : List GroupDeed → (ℕ → List (ℕ × ℕ)) → (ℕ → List ℕ) → Sending
+  sending past sent bytes = record { answered = answered_by group w past; sent = sent; bytes = bytes }
+
+  -- with its content: frames that the writer answered, and chunks of them
+  abbrev pub HaveContents : (ℕ → List (ℕ × ℕ)) → (ℕ → List ℕ) → List GroupDeed → Type 0
+  HaveContents sent bytes past =
+      (datagram : List ℕ) (accepted : Accepted) (opened : Opened) → WasMade past datagram → its_verdict accepted datagram ≡ Ok opened → AreSentPieces (sending past sent bytes) seat opened
+
   -- what a datagram of this past has for the reader was sent with its token and number
   pub record Held (past : List GroupDeed) (sent : ℕ → List (ℕ × ℕ)) : Type 0 where
     pub bytes : ℕ → List ℕ
-    pub parts : NamesPlaces place sent → (datagram : List ℕ) (accepted : Accepted) (opened : Opened) → WasMade past datagram → its_verdict accepted datagram ≡ Ok opened
+    pub parts : is_numbered seat.part.numbering ≡ true → NamesPlaces place sent → (datagram : List ℕ) (accepted : Accepted) (opened : Opened) → WasMade past datagram → its_verdict accepted datagram ≡ Ok opened
         → All (IsPartFor (made_with sent bytes) way opened.pass.token opened.pass.number) (pieces seat.part opened.payload)
+    pub contents : HaveContents sent bytes past
 
   abbrev pub HeldAt : List Deed → Type 0
   HeldAt list = Held (group_past config g list) (λ token. sent_in config k g w token list)
 
   held-none : HeldAt []
-  held-none = record { bytes = λ own. []; parts = λ named datagram accepted opened was e. absurd was }
+  held-none = record { bytes = λ own. []; parts = λ numbered named datagram accepted opened was e. absurd was; contents = λ datagram accepted opened was e. absurd was }
+
+  -- a refresh answers nothing
+  refreshed-contents : (sent : ℕ → List (ℕ × ℕ)) (bytes : ℕ → List ℕ) (test : ℕ → Bool) (past : List GroupDeed) (writers : List ℕ) → HaveContents sent bytes past → HaveContents sent bytes (refreshed_where test past writers)
+  refreshed-contents sent bytes = refreshed-keeps (HaveContents sent bytes)
+      (λ writer past h datagram accepted opened was e.
+      subst (λ (answered : List Answered). AreSentPieces (record { answered = answered; sent = sent; bytes = bytes }) seat opened) (sym (refresh-same group w writer past)) (h datagram accepted opened was e))
 
   held-below : (component : Component) (earlier : List Deed) → HeldAt earlier → HeldAt (RefreshedBelow component ∷ earlier)
   held-below component earlier h = record {
     bytes = h.bytes;
-    parts = λ named datagram accepted opened was e.
-        h.parts named datagram accepted opened (was-where (is_writer_below component g) (group_past config g earlier) (writer_indexes group) datagram was) e;
+    parts = λ numbered named datagram accepted opened was e.
+        h.parts numbered named datagram accepted opened (was-where (is_writer_below component g) (group_past config g earlier) (writer_indexes group) datagram was) e;
+    contents = refreshed-contents (λ token. sent_in config k g w token earlier) h.bytes (is_writer_below component g) (group_past config g earlier) (writer_indexes group) h.contents;
   }
 
   held-set : (set : ℕ) (earlier : List Deed) → HeldAt earlier → HeldAt (RefreshedSet set ∷ earlier)
   held-set set earlier h = record {
     bytes = h.bytes;
-    parts = λ named datagram accepted opened was e.
-        h.parts named datagram accepted opened (was-where (is_writer_of group set) (group_past config g earlier) (writer_indexes group) datagram was) e;
+    parts = λ numbered named datagram accepted opened was e.
+        h.parts numbered named datagram accepted opened (was-where (is_writer_of group set) (group_past config g earlier) (writer_indexes group) datagram was) e;
+    contents = refreshed-contents (λ token. sent_in config k g w token earlier) h.bytes (is_writer_of group set) (group_past config g earlier) (writer_indexes group) h.contents;
   }
 
   -- ---- the parts of a datagram of a turn
@@ -200,14 +220,14 @@ module _ (laws : TurnLaws) (config : Config) (k g w : ℕ) (readers : ReadGroupP
         bytes-below at message (answer_by group past input w) (h.bytes at)
         (λ frame e loud. let there : place_of frame ≡ next_of group w past = loud-to group w (took_by w turn) past frame (is-answer frame e) loud in omega (arith, lt, there))
 
-    old-parts : NamesPlaces place now → (datagram : List ℕ) (accepted : Accepted) (opened : Opened) → WasMade past datagram → its_verdict accepted datagram ≡ Ok opened
+    old-parts : is_numbered seat.part.numbering ≡ true → NamesPlaces place now → (datagram : List ℕ) (accepted : Accepted) (opened : Opened) → WasMade past datagram → its_verdict accepted datagram ≡ Ok opened
         → All (IsPartFor (made_with now bytes_now) way opened.pass.token opened.pass.number) (pieces seat.part opened.payload)
-    old-parts named datagram accepted opened was e =
+    old-parts numbered named datagram accepted opened was e =
         let token = opened.pass.token in
         let number = opened.pass.number in
         All-weaker (IsPartFor (made_with old h.bytes) way token number) (IsPartFor (made_with now bytes_now) way token number)
         (λ piece of. part-stays (made_with old h.bytes) (made_with now bytes_now) way token number (λ at has. keeps token number at has) (λ at has. bytes-stay token number at has) piece of)
-        (pieces seat.part opened.payload) (h.parts (named-old named) datagram accepted opened was e)
+        (pieces seat.part opened.payload) (h.parts numbered (named-old named) datagram accepted opened was e)
 
     sender-is : input.sender ≡ Some s
     sender-is = sender-of config g k before input.sender keyed own.sender
@@ -261,9 +281,9 @@ module _ (laws : TurnLaws) (config : Config) (k g w : ℕ) (readers : ReadGroupP
         let mine : its_verdict [] datagram ≡ Ok one = other-ring readers ring_setup setup datagram one s.keys mode (ring-known.first_block ∙ sym knows.first_block) theirs known taken in
         there ∙ ap (λ (o : Opened). Some o) (same-opening readers setup [] accepted datagram one opened mine e)
 
-    sent-now : NamesPlaces place now → (index : ℕ) (opened : Opened) → index < length turn.made → IsPassOf s index opened.pass
+    sent-now : is_numbered seat.part.numbering ≡ true → NamesPlaces place now → (index : ℕ) (opened : Opened) → index < length turn.made → IsPassOf s index opened.pass
         → IsSentNow (made_with now bytes_now) group w past input way opened.pass.token opened.pass.number
-    sent-now named index opened below pass = record {
+    sent-now numbered named index opened below pass = record {
       by = numbered;
       major = ap (λ (m : MetaData). m.major) meta-is ∙ own.is.majors w matched.reads.within;
       named = λ at has. named opened.pass.token opened.pass.number at has;
@@ -273,27 +293,79 @@ module _ (laws : TurnLaws) (config : Config) (k g w : ℕ) (readers : ReadGroupP
       bytes = λ frame e loud. ap (λ (o : Option PlacedFrame). bytes_if (place_of frame) message o (h.bytes (place_of frame))) e ∙ bytes-here (place_of frame) message frame (h.bytes (place_of frame)) loud refl;
     }
 
-    new-parts : NamesPlaces place now → (datagram : List ℕ) (accepted : Accepted) (opened : Opened) → Contains turn.made datagram → its_verdict accepted datagram ≡ Ok opened
-        → All (IsPartFor (made_with now bytes_now) way opened.pass.token opened.pass.number) (pieces seat.part opened.payload)
-    new-parts named datagram accepted opened (index, below, same) e =
-        let token = opened.pass.token in
-        let number = opened.pass.number in
-        let all = turn_opened ringed group past input in
+    -- a datagram of the turn that is taken
+    pub record IsOpenedOf (opened : Opened) : Type 0 where
+      pub index : ℕ
+      pub below : index < length turn.made
+      pub there : slice_get (turn_opened ringed group past input) index ≡ Some opened
+
+    turn-opens : (datagram : List ℕ) (accepted : Accepted) (opened : Opened) → Contains turn.made datagram → its_verdict accepted datagram ≡ Ok opened → IsOpenedOf opened
+    turn-opens datagram accepted opened (index, below, same) e =
         let at : slice_get turn.made index ≡ Some datagram = slice_get-get_or turn.made index datagram below ∙ ap (λ (d : List ℕ). Some d) same in
         let sent : slice_get (turn_datagrams ringed group past input) index ≡ Some datagram = subst (λ (t : GroupTurn). slice_get t.made index ≡ Some datagram) own.is.is at in
-        let there : slice_get all index ≡ Some opened = opened-there index datagram accepted opened sent e in
-        let has : Contains all opened = (index, slice_get_within all index opened there, get_or_from_slice_get all index opened opened there) in
+        record { index = index; below = below; there = opened-there index datagram accepted opened sent e }
+
+    opened-parts : (opened : Opened) → IsOpenedOf opened → All (IsPartBy group past input w seat) (pieces seat.part opened.payload)
+    opened-parts opened is =
+        let all = turn_opened ringed group past input in
+        let has : Contains all opened = (is.index, slice_get_within all is.index opened is.there, get_or_from_slice_get all is.index opened opened is.there) in
+        turn-parts own.rings group.layout past turn opened own.is refl has
+
+    new-parts : is_numbered seat.part.numbering ≡ true → NamesPlaces place now → (opened : Opened) → IsOpenedOf opened → All (IsPartFor (made_with now bytes_now) way opened.pass.token opened.pass.number) (pieces seat.part opened.payload)
+    new-parts numbered named opened is =
+        let token = opened.pass.token in
+        let number = opened.pass.number in
         All-weaker (IsPartBy group past input w seat) (IsPartFor (made_with now bytes_now) way token number)
-        (λ piece of. part-sent (made_with now bytes_now) group w past input way token number (sent-now named index opened below (pass-is index opened there)) piece of)
-        (pieces seat.part opened.payload) (turn-parts own.rings group.layout past turn opened own.is refl has)
+        (λ piece of. part-sent (made_with now bytes_now) group w past input way token number (sent-now numbered named is.index opened is.below (pass-is is.index opened is.there)) piece of)
+        (pieces seat.part opened.payload) (opened-parts opened is)
+
+    -- with its content
+
+    abbrev sending_now : Sending
+    sending_now = sending (HadGroupTurn turn ∷ past) now bytes_now
+
+    sent-by : (opened : Opened) → IsOpenedOf opened → IsSentBy sending_now group w past input seat.meta opened.pass.token opened.pass.number
+    sent-by opened is =
+        let pass = pass-is is.index opened is.there in
+        record {
+          major = ap (λ (m : MetaData). m.major) meta-is ∙ own.is.majors w matched.reads.within;
+          was = λ answer e. record {
+            one_of = answer-now ringed group past turn w answer own.is e;
+            at = given-has (s.keys.token == opened.pass.token) answered answer s.used (length turn.made) is.index opened.pass.number (old opened.pass.token) (eq-eqb s.keys.token opened.pass.token (sym pass.token)) (is-answer answer e) pass.number is.below;
+            good = good-to group w (took_by w turn) past answer (is-answer answer e);
+          };
+          bytes = λ answer e loud. ap (λ (o : Option PlacedFrame). bytes_if (place_of answer) message o (h.bytes (place_of answer))) e ∙ bytes-here (place_of answer) message answer (h.bytes (place_of answer)) loud refl;
+        }
+
+    new-contents : (opened : Opened) → IsOpenedOf opened → AreSentPieces sending_now seat opened
+    new-contents opened is =
+        let token = opened.pass.token in
+        let number = opened.pass.number in
+        All-weaker (IsPartBy group past input w seat) (IsSentPiece sending_now seat.meta token number)
+        (λ piece of. piece-sent sending_now group w past input seat token number (sent-by opened is) piece of) (pieces seat.part opened.payload) (opened-parts opened is)
+
+    old-contents : (datagram : List ℕ) (accepted : Accepted) (opened : Opened) → WasMade past datagram → its_verdict accepted datagram ≡ Ok opened → AreSentPieces sending_now seat opened
+    old-contents datagram accepted opened was e =
+        let token = opened.pass.token in
+        pieces-stay (sending past old h.bytes) sending_now seat opened
+        (record { answers = λ answer is. answer-stays group w turn past answer is; sends = λ number at has. keeps token number at has; bytes = λ number at has. bytes-stay token number at has })
+        (h.contents datagram accepted opened was e)
 
     own-held : Held (HadGroupTurn turn ∷ past) now
-    own-held = record { bytes = bytes_now; parts = λ named datagram accepted opened was e. on named datagram accepted opened e was }
+    own-held = record {
+      bytes = bytes_now;
+      parts = λ numbered named datagram accepted opened was e. on numbered named datagram accepted opened e was;
+      contents = λ datagram accepted opened was e. contents-on datagram accepted opened e was;
+    }
       where
-        on : NamesPlaces place now → (datagram : List ℕ) (accepted : Accepted) (opened : Opened) → its_verdict accepted datagram ≡ Ok opened → WasMade (HadGroupTurn turn ∷ past) datagram
+        on : is_numbered seat.part.numbering ≡ true → NamesPlaces place now → (datagram : List ℕ) (accepted : Accepted) (opened : Opened) → its_verdict accepted datagram ≡ Ok opened → WasMade (HadGroupTurn turn ∷ past) datagram
             → All (IsPartFor (made_with now bytes_now) way opened.pass.token opened.pass.number) (pieces seat.part opened.payload)
-        on named datagram accepted opened e (inl made) = new-parts named datagram accepted opened made e
-        on named datagram accepted opened e (inr was) = old-parts named datagram accepted opened was e
+        on numbered named datagram accepted opened e (inl made) = new-parts numbered named opened (turn-opens datagram accepted opened made e)
+        on numbered named datagram accepted opened e (inr was) = old-parts numbered named datagram accepted opened was e
+
+        contents-on : (datagram : List ℕ) (accepted : Accepted) (opened : Opened) → its_verdict accepted datagram ≡ Ok opened → WasMade (HadGroupTurn turn ∷ past) datagram → AreSentPieces sending_now seat opened
+        contents-on datagram accepted opened e (inl made) = new-contents opened (turn-opens datagram accepted opened made e)
+        contents-on datagram accepted opened e (inr was) = old-contents datagram accepted opened was e
 
   -- a turn of whichever group
   took-held : (other : ℕ) (turn : GroupTurn) (before : List Deed) → ((group_at config other).keygroup ≡ Some k → IsRingTurn config other before turn) → (other ≡ g → KnowsSender setup (sender_after config k before)) → RisenAt config k g w before → HeldAt before

@@ -7,6 +7,7 @@ pub mod Sharing
 pub mod Naming
 pub mod Uses
 pub mod Parts
+pub mod Contents
 pub mod Holding
 pub mod OtherGroups
 pub mod Others

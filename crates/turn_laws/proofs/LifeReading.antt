@@ -17,7 +17,7 @@ use Rattle.reader_group.specs.Plain.{Setting, PlainGroup, Event, Got, Expired, S
 use Rattle.reader_group.proofs.Accepting.{plain-accepted}
 use Rattle.writer_group.specs.Turns.{GroupDeed}
 use Rattle.session_model.specs.Readings.{Reading, read_on}
-use Rattle.session_laws.specs.Pasts.{IsMade}
+use Rattle.session_laws.specs.Pasts.{CameAsMade, IsMade}
 use Rattle.session_laws.specs.Readers.{IsMadeFor, Making, SignedAreMade}
 use Rattle.session_laws.proofs.HeldRows.KnownTokens.{known-token}
 use Rattle.turn_laws.specs.Lives.{TakenAreMadeOn, TokensNameKeys, marks_on}
@@ -33,18 +33,30 @@ TakenWereMadeOn setting config pasts value (Got moment on datagram ∷ before) =
 TakenWereMadeOn setting config pasts value (Expired moment ∷ before) = TakenWereMadeOn setting config pasts value before
 TakenWereMadeOn setting config pasts value (Stopped reader why ∷ before) = TakenWereMadeOn setting config pasts value before
 
-module _ (base : Setting) (secured : is_secured base.setup.mode ≡ true) (all : List KeySet) (named : TokensNameKeys all) (config : Config) (pasts : ℕ → List GroupDeed) (m : Making) (way : Way)
-    (made_for : (datagram : List ℕ) → IsMade config pasts datagram → IsMadeFor m (with_keys base (map keys_in all)) way datagram) where
+-- each datagram of these events was made by a group
+abbrev pub WereMade : Config → (ℕ → List GroupDeed) → List Event → Type 0
+WereMade config pasts [] = ⊤
+WereMade config pasts (Got moment on datagram ∷ before) = IsMade config pasts datagram × WereMade config pasts before
+WereMade config pasts (Expired moment ∷ before) = WereMade config pasts before
+WereMade config pasts (Stopped reader why ∷ before) = WereMade config pasts before
+
+pub came-by : (setting : Setting) (config : Config) (pasts : ℕ → List GroupDeed) (events : List Event) → WereMade config pasts events → CameAsMade setting config pasts events
+came-by setting config pasts [] were = tt
+came-by setting config pasts (Got moment on datagram ∷ before) were = ((λ opened e. were.0), came-by setting config pasts before were.1)
+came-by setting config pasts (Expired moment ∷ before) were = came-by setting config pasts before were
+came-by setting config pasts (Stopped reader why ∷ before) were = came-by setting config pasts before were
+
+module _ (base : Setting) (secured : is_secured base.setup.mode ≡ true) (all : List KeySet) (named : TokensNameKeys all) (config : Config) (pasts : ℕ → List GroupDeed) (way : Way) where
   -- with the keys of all rings together
   abbrev joined : Setting
   joined = with_keys base (map keys_in all)
 
-  -- a reading and a list that are those of some events, with the keys of all rings together, in which what came signed was made
+  -- a reading and a list that are those of some events, with the keys of all rings together, in which each datagram was made by a group
   pub record IsRead (value : PlainGroup) (list : List Mark) : Type 0 where
     pub events : List Event
     pub value_is : plain joined events ≡ value
     pub list_is : marks joined way events ≡ list
-    pub made : SignedAreMade m joined way events
+    pub made : WereMade config pasts events
     pub restarts : AreRestarts events
 
   pub read-none : (value : PlainGroup) → plain joined [] ≡ value → IsRead value []
@@ -76,7 +88,7 @@ module _ (base : Setting) (secured : is_secured base.setup.mode ≡ true) (all :
           list_is = ap (λ (pairs : Accepted). taken_in joined way moment enabled pairs (marks joined way h.events) (verdict joined.group joined.setup pairs datagram)) pairs_are
               ∙ ap (λ (l : List Mark). taken_in joined way moment enabled value.accepted l (verdict joined.group joined.setup value.accepted datagram)) h.list_is
               ∙ ap (taken_in joined way moment enabled value.accepted list) both;
-          made = ((λ by_all. made_for datagram (so opened e)), h.made);
+          made = (so opened e, h.made);
           restarts = h.restarts;
         }
 
@@ -104,21 +116,6 @@ module _ (base : Setting) (secured : is_secured base.setup.mode ≡ true) (all :
           restarts = (restarts.0, earlier.restarts);
         }
 
-    -- the sender made what the group took with these keys
-    all-taken : (events : List Event) (value : PlainGroup) → TakenWereMadeOn own config pasts value events → TakenAreMadeOn m own way value events
-    all-taken [] value so = tt
-    all-taken (Got moment on datagram ∷ before) value so =
-        ((λ opened e pairs other is. made_for datagram (so.0 opened e) pairs other (joins pairs datagram other is)), all-taken before value so.1)
-    all-taken (Expired moment ∷ before) value so = all-taken before value so
-    all-taken (Stopped reader why ∷ before) value so = all-taken before value so
-
-    -- and what came signed under them
-    all-made : (events : List Event) → SignedWereMade own config pasts events → SignedAreMade m own way events
-    all-made [] so = tt
-    all-made (Got moment on datagram ∷ before) so = ((λ by_own pairs opened e. made_for datagram (so.0 by_own) pairs opened (joins pairs datagram opened e)), all-made before so.1)
-    all-made (Expired moment ∷ before) so = all-made before so
-    all-made (Stopped reader why ∷ before) so = all-made before so
-
   -- ---- a reading, whose keys are those of some of them
 
   pub record IsReadWith (reading : Reading) (list : List Mark) : Type 0 where
@@ -133,12 +130,37 @@ module _ (base : Setting) (secured : is_secured base.setup.mode ≡ true) (all :
       subst (λ (keys : List TokenKeys). TakenWereMadeOn (with_keys base keys) config pasts reading.value events → IsRead (read_on (with_keys base keys) reading.value events) (marks_on (with_keys base keys) way reading.value list events)) (sym h.keys)
       (λ own_so. read-all h.sets h.among events reading.value list own_so restarts h.read) so
 
-  pub goes-taken : (reading : Reading) (list : List Mark) (events : List Event) → TakenWereMadeOn (with_keys base reading.keys) config pasts reading.value events → IsReadWith reading list
-      → TakenAreMadeOn m (with_keys base reading.keys) way reading.value events
-  goes-taken reading list events so h =
-      subst (λ (keys : List TokenKeys). TakenWereMadeOn (with_keys base keys) config pasts reading.value events → TakenAreMadeOn m (with_keys base keys) way reading.value events) (sym h.keys)
-      (λ own_so. all-taken h.sets h.among events reading.value own_so) so
+  -- ---- what the sender made
 
-  pub goes-made : (reading : Reading) (list : List Mark) (events : List Event) → SignedWereMade (with_keys base reading.keys) config pasts events → IsReadWith reading list → SignedAreMade m (with_keys base reading.keys) way events
-  goes-made reading list events so h =
-      subst (λ (keys : List TokenKeys). SignedWereMade (with_keys base keys) config pasts events → SignedAreMade m (with_keys base keys) way events) (sym h.keys) (λ own_so. all-made h.sets h.among events own_so) so
+  module _ (m : Making) (made_for : (datagram : List ℕ) → IsMade config pasts datagram → IsMadeFor m joined way datagram) where
+    pub signed-by : (events : List Event) → WereMade config pasts events → SignedAreMade m joined way events
+    signed-by [] were = tt
+    signed-by (Got moment on datagram ∷ before) were = ((λ signed. made_for datagram were.0), signed-by before were.1)
+    signed-by (Expired moment ∷ before) were = signed-by before were
+    signed-by (Stopped reader why ∷ before) were = signed-by before were
+
+    -- what the group took with the keys of some of them
+    all-taken : (sets : List KeySet) (among : All (Contains all) sets) (events : List Event) (value : PlainGroup) → TakenWereMadeOn (own sets among) config pasts value events → TakenAreMadeOn m (own sets among) way value events
+    all-taken sets among [] value so = tt
+    all-taken sets among (Got moment on datagram ∷ before) value so =
+        ((λ opened e pairs other is. made_for datagram (so.0 opened e) pairs other (joins sets among pairs datagram other is)), all-taken sets among before value so.1)
+    all-taken sets among (Expired moment ∷ before) value so = all-taken sets among before value so
+    all-taken sets among (Stopped reader why ∷ before) value so = all-taken sets among before value so
+
+    -- and what came signed under them
+    all-made : (sets : List KeySet) (among : All (Contains all) sets) (events : List Event) → SignedWereMade (own sets among) config pasts events → SignedAreMade m (own sets among) way events
+    all-made sets among [] so = tt
+    all-made sets among (Got moment on datagram ∷ before) so =
+        ((λ by_own pairs opened e. made_for datagram (so.0 by_own) pairs opened (joins sets among pairs datagram opened e)), all-made sets among before so.1)
+    all-made sets among (Expired moment ∷ before) so = all-made sets among before so
+    all-made sets among (Stopped reader why ∷ before) so = all-made sets among before so
+
+    pub goes-taken : (reading : Reading) (list : List Mark) (events : List Event) → TakenWereMadeOn (with_keys base reading.keys) config pasts reading.value events → IsReadWith reading list
+        → TakenAreMadeOn m (with_keys base reading.keys) way reading.value events
+    goes-taken reading list events so h =
+        subst (λ (keys : List TokenKeys). TakenWereMadeOn (with_keys base keys) config pasts reading.value events → TakenAreMadeOn m (with_keys base keys) way reading.value events) (sym h.keys)
+        (λ own_so. all-taken h.sets h.among events reading.value own_so) so
+
+    pub goes-made : (reading : Reading) (list : List Mark) (events : List Event) → SignedWereMade (with_keys base reading.keys) config pasts events → IsReadWith reading list → SignedAreMade m (with_keys base reading.keys) way events
+    goes-made reading list events so h =
+        subst (λ (keys : List TokenKeys). SignedWereMade (with_keys base keys) config pasts events → SignedAreMade m (with_keys base keys) way events) (sym h.keys) (λ own_so. all-made h.sets h.among events own_so) so

@@ -15,7 +15,7 @@ use Rattle.ps_config.specs.Headers as configured
 use Rattle.ps_config.specs.Rings.{key_set}
 use Rattle.ps_config.specs.Sound.{IsKeyed}
 use Rattle.reader_group.specs.Agreeing.{AreRestarts, ChunksNear, IsWayOf, MemberIs, SendsRise}
-use Rattle.reader_group.specs.Arrivals.{Mark, Way, marks}
+use Rattle.reader_group.specs.Arrivals.{Mark, Way, arrivals_in, marks}
 use Rattle.reader_group.specs.Opening.{Opened}
 use Rattle.reader_group.specs.Plain.{Setting, PlainGroup, Event, member_at, plain, verdict_in, with_keys}
 use Rattle.reader_group.specs.Settings.{group_at as read_group_at, keygroup_at, setting_of, setup_by}
@@ -30,22 +30,24 @@ use Rattle.session_model.specs.Readings.{Reading, read_on, reads_with, rekeyed_i
 use Rattle.session_model.specs.Steps.{Plan, Step, Enable, Disable, Append, Tick, Pump, moment_of}
 use Rattle.session_laws.specs.Below.{Laws}
 use Rattle.session_laws.specs.Pasts.{IsMade}
+use Rattle.session_laws.specs.Plays.{IsAnswerBy, ItemsAre}
 use Rattle.session_laws.specs.Readers.{IsMadeFor, Making}
 use Rattle.session_laws.proofs.Versions.Senders.{group-keyed}
-use Rattle.turn_laws.specs.Lives.{HasItsRecordsIn, IsHonestIn, IsHonestOn, IsMadeBySenderIn, IsSignedLife, SignedAreMadeIn, TakenAreMadeIn, TakesIn, TakesWhatWasSentIn, TokensNameKeys, life_way, marks_in, sets_in_life}
+use Rattle.turn_laws.specs.Anew.{answered_in}
+use Rattle.turn_laws.specs.Lives.{ComesFromSenderIn, HasItsRecordsIn, IsHonestIn, IsHonestOn, IsMadeBySenderIn, IsSignedLife, SignedAreMadeIn, TakenAreMadeIn, TakesIn, TakesWhatWasSentIn, TokensNameKeys, life_way, marks_in, sets_in_life}
 use Rattle.turn_laws.specs.Makers.{SignedWereMade}
 use Rattle.turn_laws.specs.Sent.{NamesPlaces, place_near, sends_in}
 use Rattle.turn_laws.proofs.Befalling.{got-if, stopped-keeps}
 use Rattle.turn_laws.proofs.Holding.{made_with}
 use Rattle.turn_laws.proofs.LifeKeys.{earlier-sets, new-sets}
 use Rattle.turn_laws.proofs.LifeMade.{life-made, step-stays}
-use Rattle.turn_laws.proofs.LifeReading.{IsReadWith, TakenWereMadeOn, goes-made, goes-read, goes-taken, read-none}
+use Rattle.turn_laws.proofs.LifeReading.{IsRead, IsReadWith, TakenWereMadeOn, came-by, goes-made, goes-read, goes-taken, read-none, signed-by}
 use Rattle.turn_laws.proofs.LifeTurns.{life-knows, life-turns}
 use Rattle.turn_laws.proofs.Naming.{near-names, near-numbers}
 use Rattle.turn_laws.proofs.Rings.{AreRingTurns, KnowsSenders, secured-so}
 use Rattle.turn_laws.proofs.Sessions.{seat-there}
 use Rattle.turn_laws.proofs.Sharing.{life-rise}
-use Rattle.turn_laws.proofs.Signed.{SignedLaw, held, made-for}
+use Rattle.turn_laws.proofs.Signed.{SignedLaw, events-contents, held, made-for}
 
 -- ---- what a read group takes with fewer steps, and over a link that delivers nothing else that is signed
 
@@ -166,12 +168,12 @@ module _ (p : Plan) (r : ℕ) (pasts : ℕ → List GroupDeed) where
 -- ---- the reading of a life
 
 module _ (p : Plan) (r k : ℕ) (secured : is_secured (setting_of p.config r).setup.mode ≡ true) (reads : (read_group_at p.config r).keygroup ≡ Some k) (all : List KeySet) (named : TokensNameKeys all) (pasts : ℕ → List GroupDeed)
-    (m : Making) (way : Way) (made_for : (datagram : List ℕ) → IsMade p.config pasts datagram → IsMadeFor m (with_keys (setting_of p.config r) (map keys_in all)) way datagram) where
+    (way : Way) where
   abbrev base : Setting
   base = setting_of p.config r
 
   abbrev IsSoFar : Reading → List Mark → Type 0
-  IsSoFar reading list = IsReadWith base secured all named p.config pasts m way made_for reading list
+  IsSoFar reading list = IsReadWith base secured all named p.config pasts way reading list
 
   -- the keys that the group has at first
   first-keys : base.setup.keys ≡ map keys_in (map key_set (keygroup_at p.config k).key)
@@ -195,12 +197,12 @@ module _ (p : Plan) (r k : ℕ) (secured : is_secured (setting_of p.config r).se
     sets = h.sets;
     among = h.among;
     keys = h.keys;
-    read = goes-read base secured all named p.config pasts m way made_for ((account_in p before).readings r) (marks_in p r way before) (befalls p.config (steps_in before) step r) (step-taken p r pasts step before takes sent)
+    read = goes-read base secured all named p.config pasts way ((account_in p before).readings r) (marks_in p r way before) (befalls p.config (steps_in before) step r) (step-taken p r pasts step before takes sent)
         (step-restarts p r pasts step before) h;
   }
 
   pub life-read : (life : List Lived) → TakesWhatWasSentIn p r life → AllMade p r pasts (account_in p life).journal → All (Contains all) (sets_in_life p.config k life) → IsSoFar ((account_in p life).readings r) (marks_in p r way life)
-  life-read [] takes sent ones = record { sets = map key_set (keygroup_at p.config k).key; among = ones; keys = first-keys; read = read-none base secured all named p.config pasts m way made_for (plain base []) refl }
+  life-read [] takes sent ones = record { sets = map key_set (keygroup_at p.config k).key; among = ones; keys = first-keys; read = read-none base secured all named p.config pasts way (plain base []) refl }
   life-read (Stepped (Enable id) ∷ before) takes sent ones = life-read before (sent-before p r (Stepped (Enable id)) before takes) (before-made p r pasts (Enable id) before sent) ones
   life-read (Stepped (Disable id) ∷ before) takes sent ones =
       let sent_before = before-made p r pasts (Disable id) before sent in gone (Disable id) before takes sent_before (life-read before (sent-before p r (Stepped (Disable id)) before takes) sent_before ones)
@@ -215,29 +217,30 @@ module _ (p : Plan) (r k : ℕ) (secured : is_secured (setting_of p.config r).se
       rekeyed (reads_with (read_group_at p.config r) keygroup) keygroup sets earlier ((account_in p before).readings r) (marks_in p r way before) (λ is. same-group keygroup is) ones
       (life-read before (sent-before p r (Renewed keygroup sets) before takes) sent (earlier-sets (Contains all) (keygroup == k) sets earlier ones))
 
-  pub life-taken : (life : List Lived) → TakesWhatWasSentIn p r life → AllMade p r pasts (account_in p life).journal → All (Contains all) (sets_in_life p.config k life) → TakenAreMadeIn m p r way life
-  life-taken [] takes sent ones = tt
-  life-taken (Stepped step ∷ before) takes sent ones =
-      let sent_before = before-made p r pasts step before sent in
-      let takes_before = sent-before p r (Stepped step) before takes in (
-        goes-taken base secured all named p.config pasts m way made_for ((account_in p before).readings r) (marks_in p r way before) (befalls p.config (steps_in before) step r) (step-taken p r pasts step before takes sent_before)
-            (life-read before takes_before sent_before ones),
-        life-taken before takes_before sent_before ones,
-      )
-  life-taken (Renewed keygroup sets ∷ before) takes sent ones =
-      life-taken before (sent-before p r (Renewed keygroup sets) before takes) sent (earlier-sets (Contains all) (keygroup == k) sets (sets_in_life p.config k before) ones)
+  module _ (m : Making) (made_for : (datagram : List ℕ) → IsMade p.config pasts datagram → IsMadeFor m (with_keys base (map keys_in all)) way datagram) where
+    pub life-taken : (life : List Lived) → TakesWhatWasSentIn p r life → AllMade p r pasts (account_in p life).journal → All (Contains all) (sets_in_life p.config k life) → TakenAreMadeIn m p r way life
+    life-taken [] takes sent ones = tt
+    life-taken (Stepped step ∷ before) takes sent ones =
+        let sent_before = before-made p r pasts step before sent in
+        let takes_before = sent-before p r (Stepped step) before takes in (
+          goes-taken base secured all named p.config pasts way m made_for ((account_in p before).readings r) (marks_in p r way before) (befalls p.config (steps_in before) step r) (step-taken p r pasts step before takes sent_before)
+              (life-read before takes_before sent_before ones),
+          life-taken before takes_before sent_before ones,
+        )
+    life-taken (Renewed keygroup sets ∷ before) takes sent ones =
+        life-taken before (sent-before p r (Renewed keygroup sets) before takes) sent (earlier-sets (Contains all) (keygroup == k) sets (sets_in_life p.config k before) ones)
 
-  pub life-signed : (life : List Lived) → TakesWhatWasSentIn p r life → IsHonestIn p r life → AllMade p r pasts (account_in p life).journal → All (Contains all) (sets_in_life p.config k life) → SignedAreMadeIn m p r way life
-  life-signed [] takes honest sent ones = tt
-  life-signed (Stepped step ∷ before) takes honest sent ones =
-      let sent_before = before-made p r pasts step before sent in
-      let takes_before = sent-before p r (Stepped step) before takes in (
-        goes-made base secured all named p.config pasts m way made_for ((account_in p before).readings r) (marks_in p r way before) (befalls p.config (steps_in before) step r) (step-signed p r pasts step before honest.0 sent_before)
-            (life-read before takes_before sent_before ones),
-        life-signed before takes_before honest.1 sent_before ones,
-      )
-  life-signed (Renewed keygroup sets ∷ before) takes honest sent ones =
-      life-signed before (sent-before p r (Renewed keygroup sets) before takes) honest sent (earlier-sets (Contains all) (keygroup == k) sets (sets_in_life p.config k before) ones)
+    pub life-signed : (life : List Lived) → TakesWhatWasSentIn p r life → IsHonestIn p r life → AllMade p r pasts (account_in p life).journal → All (Contains all) (sets_in_life p.config k life) → SignedAreMadeIn m p r way life
+    life-signed [] takes honest sent ones = tt
+    life-signed (Stepped step ∷ before) takes honest sent ones =
+        let sent_before = before-made p r pasts step before sent in
+        let takes_before = sent-before p r (Stepped step) before takes in (
+          goes-made base secured all named p.config pasts way m made_for ((account_in p before).readings r) (marks_in p r way before) (befalls p.config (steps_in before) step r) (step-signed p r pasts step before honest.0 sent_before)
+              (life-read before takes_before sent_before ones),
+          life-signed before takes_before honest.1 sent_before ones,
+        )
+    life-signed (Renewed keygroup sets ∷ before) takes honest sent ones =
+        life-signed before (sent-before p r (Renewed keygroup sets) before takes) honest sent (earlier-sets (Contains all) (keygroup == k) sets (sets_in_life p.config k before) ones)
 
 -- ---- the laws
 
@@ -279,38 +282,52 @@ module _ (laws : Laws) (most : ℕ) (p : Plan) (r i g w k : ℕ) (life : List Li
   known = life-knows laws.ring laws.words most p is.plan life k g is.lengths there readers reads is.named is.steps_are is.turns
 
   abbrev bytes : ℕ → List ℕ
-  bytes = (held laws.turns p.config k g w readers i (place_near sent) (map keys_in sets) is.matched is.under.keyed is.numbered is.plan.good.sound at (account_in p life).deeds turns known names).bytes
+  bytes = (held laws.turns p.config k g w readers i (place_near sent) (map keys_in sets) is.matched is.under.keyed is.plan.good.sound at (account_in p life).deeds turns known names).bytes
 
   abbrev making : Making
   making = made_with sent bytes
 
   was-made-for : (datagram : List ℕ) → IsMade p.config past datagram → IsMadeFor making (with_keys (setting_of p.config r) (map keys_in sets)) (life_way p r i g w k life) datagram
   was-made-for =
-      made-for laws.turns p.config k g w readers i (place_near sent) (map keys_in sets) is.matched is.under.keyed is.numbered is.plan.good.sound at (account_in p life).deeds turns known names
+      made-for laws.turns p.config k g w readers i (place_near sent) (map keys_in sets) is.matched is.under.keyed is.plan.good.sound at (account_in p life).deeds turns known names is.numbered
 
   was-made : (datagram : List ℕ) → Contains (account_in p life).journal (Sent datagram) → IsMade p.config past datagram
   was-made datagram has = life-made p life datagram is.run has
+
+  -- the reading of what it took and what befell it, with the keys of all rings together
+
+  abbrev way1 : Way
+  way1 = life_way p r i g w k life
+
+  abbrev joined : Setting
+  joined = with_keys (setting_of p.config r) (map keys_in sets)
+
+  read : IsRead (setting_of p.config r) secured sets is.named p.config past way1 ((account_in p life).readings r).value (marks_in p r way1 life)
+  read = (life-read p r k secured reads sets is.named past way1 life is.takes was-made (All-contains_itself sets)).read
 
   pub life-made-by-sender : IsMadeBySenderIn p r i g w k life
   life-made-by-sender = record {
     named = reads;
     bytes = bytes;
     rise = rises;
-    made = life-taken p r k secured reads sets is.named past making (life_way p r i g w k life) was-made-for life is.takes was-made (All-contains_itself sets);
-    signed = λ honest. life-signed p r k secured reads sets is.named past making (life_way p r i g w k life) was-made-for life is.takes honest was-made (All-contains_itself sets);
+    made = life-taken p r k secured reads sets is.named past way1 making was-made-for life is.takes was-made (All-contains_itself sets);
+    signed = λ honest. life-signed p r k secured reads sets is.named past way1 making was-made-for life is.takes honest was-made (All-contains_itself sets);
   }
 
   pub life-member : SignedLaw → HasItsRecordsIn p r i g w k life
   life-member law = λ near.
-      let way = life_way p r i g w k life in
-      let joined = with_keys (setting_of p.config r) (map keys_in sets) in
-      let read = (life-read p r k secured reads sets is.named past making way was-made-for life is.takes was-made (All-contains_itself sets)).read in
-      let way_of : IsWayOf joined way read.events = record {
+      let way_of : IsWayOf joined way1 read.events = record {
         seat = seat-there p r i is.matched.within;
         numbers = λ token number own. near-numbers sent token number own;
         restarts = read.restarts;
       } in
-      let own : MemberIs way (marks joined way read.events) (member_at (plain joined read.events).members i) =
-      law making joined way read.events secured is.numbered rises read.made way_of (subst ChunksNear (sym read.list_is) near) in
-      subst (λ (group : PlainGroup). MemberIs way (marks_in p r way life) (member_at group.members i)) read.value_is
-      (subst (λ (list : List Mark). MemberIs way list (member_at (plain joined read.events).members i)) read.list_is own)
+      let signed = signed-by (setting_of p.config r) secured sets is.named p.config past way1 making was-made-for read.events read.made in
+      let own : MemberIs way1 (marks joined way1 read.events) (member_at (plain joined read.events).members i) =
+      law making joined way1 read.events secured is.numbered rises signed way_of (subst ChunksNear (sym read.list_is) near) in
+      subst (λ (group : PlainGroup). MemberIs way1 (marks_in p r way1 life) (member_at group.members i)) read.value_is
+      (subst (λ (list : List Mark). MemberIs way1 list (member_at (plain joined read.events).members i)) read.list_is own)
+
+  pub life-comes : ComesFromSenderIn p r i g w k life
+  life-comes =
+      subst (λ (list : List Mark). ItemsAre (IsAnswerBy way1.seat.part.numbering way1.seat.meta (answered_in p g w life)) (arrivals_in list)) read.list_is
+      (events-contents laws.turns p.config k g w readers i (place_near sent) (map keys_in sets) is.matched is.under.keyed is.plan.good.sound at (account_in p life).deeds turns known names read.events (came-by joined p.config past read.events read.made)).items

@@ -28,8 +28,10 @@ use Rattle.session_model.specs.Steps.{Plan, Step, Enable, Disable, Append, Tick,
 use Rattle.writer_group.specs.declared.sampled.Sampled.{Sampled}
 use Rattle.session_laws.specs.Delivered.{all_got, sent_on}
 use Rattle.session_laws.specs.Readers.{IsMadeFor, Making, SignedAreMade}
+use Rattle.session_laws.specs.Plays.{IsAnswerBy, ItemsAre}
 use Rattle.session_laws.specs.Reading.{IsMatchedIn}
 use Rattle.session_laws.specs.Witness.{three_plan}
+use Rattle.turn_laws.specs.Anew.{answered_in}
 use Rattle.turn_laws.specs.Makers.{IsWriterUnder}
 use Rattle.turn_laws.specs.Sent.{place_near, sends_in}
 
@@ -71,6 +73,12 @@ HasItsRecordsIn p r i g w k life =
     let way = life_way p r i g w k life in
     let list = marks_in p r way life in
     ChunksNear list → MemberIs way list (member_at ((account_in p life).readings r).value.members i)
+
+-- each item of it is an answer of the writer, at its place, cut to the reader's fields
+abbrev pub ComesFromSenderIn : Plan → ℕ → ℕ → ℕ → ℕ → ℕ → List Lived → Type 0
+ComesFromSenderIn p r i g w k life =
+    let way = life_way p r i g w k life in
+    ItemsAre (IsAnswerBy way.seat.part.numbering way.seat.meta (answered_in p g w life)) (arrivals_in (marks_in p r way life))
 
 -- ---- who made it
 

@@ -9,7 +9,7 @@ use Rattle.writer_group.specs.Parts.{group_at}
 use Rattle.writer_group.specs.Sharing.{SenderUse, Moved, Renewed, Made, AreUses, after_turn, datagrams_by}
 use Rattle.writer_group.specs.Turns.{GroupDeed, GroupTurn}
 use Rattle.reader_group.specs.Agreeing.{ChunksNear, MemberIs, SendsRise}
-use Rattle.reader_group.specs.Arrivals.{Way, accepted, goes_by_numbers, is_numbered, marks}
+use Rattle.reader_group.specs.Arrivals.{Way, accepted, arrivals, goes_by_numbers, is_numbered, marks}
 use Rattle.reader_group.specs.Members.{seat_at}
 use Rattle.reader_group.specs.Opening.{Opened, verdict}
 use Rattle.reader_group.specs.Plain.{Setting, Event, Got, Expired, Stopped, member_at, plain}
@@ -23,7 +23,8 @@ use Rattle.session_model.specs.Sends.{IsRun}
 use Rattle.session_model.specs.Steps.{Plan, Step}
 use Rattle.session_model.specs.Turns.{TurnsHold}
 use Rattle.session_laws.specs.Fresh.{protected_in}
-use Rattle.session_laws.specs.Pasts.{CameAsMade, IsMade, IsTurn}
+use Rattle.session_laws.specs.Pasts.{CameAsMade, IsMade, IsTurn, answered_by}
+use Rattle.session_laws.specs.Plays.{IsAnswerBy, ItemsAre}
 use Rattle.session_laws.specs.Readers.{IsMadeFor, Making, SignedAreMade}
 use Rattle.session_laws.specs.Reading.{IsMatchedIn}
 use Rattle.session_laws.specs.Sessions.{TakesWhatWasSent}
@@ -148,6 +149,12 @@ abbrev pub HasItsRecords : Signing → Type 0
 HasItsRecords s =
     let list = marks (its_setting s) (its_way s) s.events in
     ChunksNear list → MemberIs (its_way s) list (member_at (plain (its_setting s) s.events).members s.reader)
+
+-- each item that comes to the reader is an answer of the writer, at its place, cut to the reader's fields
+abbrev pub ComesFromSender : Signing → Type 0
+ComesFromSender s =
+    let way = its_way s in
+    ItemsAre (IsAnswerBy way.seat.part.numbering way.seat.meta (answered_by (its_part s) s.writer (its_pasts s s.group))) (arrivals (its_setting s) way s.events)
 
 -- ---- in a session
 

@@ -22,8 +22,8 @@ ghost use Rattle.session_model.specs.Turns.{TurnsHold};
 ghost use Rattle.session_laws.specs.Pasts.{AreTurns, CameAsMade};
 ghost use Rattle.session_laws.specs.Reading.{first_number_of};
 ghost use Rattle.session_laws.specs.Sessions.{IsHonestFor, pasts_at};
-ghost use Rattle.turn_laws.specs.Lives.{HasItsRecordsIn, IsHonestIn, IsMadeBySenderIn, IsSignedLife, TakesWhatWasSentIn};
-ghost use Rattle.turn_laws.specs.Makers.{AreOwnTurns, HasItsRecords, HasOneSender, IsMadeBySender, IsSignedSession, IsSigning, IsWriterUnder, SignedWereMade, Signing, its_setting, its_way, signed_session, signing_of};
+ghost use Rattle.turn_laws.specs.Lives.{ComesFromSenderIn, HasItsRecordsIn, IsHonestIn, IsMadeBySenderIn, IsSignedLife, TakesWhatWasSentIn};
+ghost use Rattle.turn_laws.specs.Makers.{AreOwnTurns, ComesFromSender, HasItsRecords, HasOneSender, IsMadeBySender, IsSignedSession, IsSigning, IsWriterUnder, SignedWereMade, Signing, its_setting, its_way, signed_session, signing_of};
 ghost use Rattle.turn_laws.specs.Sent.{NamesPlaces, numbered_in, place_near, sends_in};
 
 use reader_group::what_a_secured_group_takes_is_signed;
@@ -103,8 +103,9 @@ pub fn what_is_taken_came_signed()
 /// sent. Such are those of a session of however many ticks, whose turns hold, and in which the read group takes nothing but what was
 /// sent (`session`). So such a reader is what *Arrivals* and *Records* say, with no premise on what a sender made, however many turns
 /// there were, where the places of its chunks are near: behind any deeds, if besides each cut by hand is a restart and each number
-/// stands for a place with its 16 bits (`records`), and in a session, which cuts so alone (`session_records`). Of what the read group
-/// refuses nothing is asked.
+/// stands for a place with its 16 bits (`records`), and in a session, which cuts so alone (`session_records`). Each item that comes to
+/// the reader is an answer of the writer, at its place and cut to the reader's fields, however many data frames it sent (`comes`).
+/// Of what the read group refuses nothing is asked.
 pub fn what_came_signed_was_made_by_its_sender()
     ensures made { (s : Signing) → IsSigning s → IsMadeBySender s }
     ensures session { (most : ℕ) (p : Plan) (r i g w k : ℕ) (steps : List Step)
@@ -112,6 +113,7 @@ pub fn what_came_signed_was_made_by_its_sender()
         → IsSignedSession most p r i g w k steps → IsSigning (signing_of p r i g w k steps place) }
     ensures records { (s : Signing) → IsSigning s → IsWayOf (its_setting s) (its_way s) s.events
         → HasItsRecords s }
+    ensures comes { (s : Signing) → IsSigning s → ComesFromSender s }
     ensures session_records { (most : ℕ) (p : Plan) (r i g w k : ℕ) (steps : List Step)
         → IsSignedSession most p r i g w k steps
         → HasItsRecords (signed_session p r i g w k steps) }
@@ -124,7 +126,7 @@ pub fn what_came_signed_was_made_by_its_sender()
 /// Where a read group takes nothing but what was sent, this was made by that sender, and so was all that came under a signature of the
 /// ring that the read group has then, where the link delivers nothing else that is signed so (`made`); and a reader that is matched
 /// to a writer and goes by numbers is what *Arrivals* and *Records* say, each datagram read with the keys of its time, where the
-/// places of its chunks are near (`records`). The rings for that key group owe that a token has the same keys in each of them, its
+/// places of its chunks are near (`records`). Each item that comes to it is an answer of the writer, at its place (`comes`). The rings for that key group owe that a token has the same keys in each of them, its
 /// configuration's among them, and that these are as long as its policy says; that the tokens of all rings have 32 bits
 /// `each_turn_of_a_life_holds` asks for its turns.
 pub fn what_came_signed_in_a_life_was_made_by_its_sender()
@@ -132,6 +134,8 @@ pub fn what_came_signed_in_a_life_was_made_by_its_sender()
         → IsSignedLife most p r i g w k life → IsMadeBySenderIn p r i g w k life }
     ensures records { (most : ℕ) (p : Plan) (r i g w k : ℕ) (life : List Lived)
         → IsSignedLife most p r i g w k life → HasItsRecordsIn p r i g w k life }
+    ensures comes { (most : ℕ) (p : Plan) (r i g w k : ℕ) (life : List Lived)
+        → IsSignedLife most p r i g w k life → ComesFromSenderIn p r i g w k life }
 {
     what_the_laws_below_say();
     signed_readers_have_their_records();

@@ -1,5 +1,5 @@
 use Rattle.turn_laws.proofs.Sessions.{session-member, session-signing}
-use Rattle.turn_laws.proofs.Signed.{made-by-sender, signed-member}
+use Rattle.turn_laws.proofs.Signed.{comes-from-sender, made-by-sender, signed-member}
 use Rattle.turn_laws.proofs.laws.what_came_signed_was_made_by_its_sender.Goals as goal
 
 pub returns : goal.returns
@@ -10,5 +10,6 @@ returns c =
       made = made-by-sender laws.turns;
       session = session-signing laws;
       records = signed-member laws.turns signed;
+      comes = comes-from-sender laws.turns;
       session_records = session-member laws signed;
     }
