@@ -16,7 +16,7 @@ use Rattle.device_sides.specs.declared.looking.Looked.{Looked}
 use Rattle.device_sides.specs.declared.looking.Looked.TheVariants.{Held, Idle, Made}
 use Rattle.device_sides.specs.declared.publisher.Publisher.{Publisher}
 use Rattle.device_sides.specs.declared.side.Side.{Side}
-use Rattle.device_sides.specs.Sides.{HasNumbered, HasTurned, MayNotTurn, sender_for}
+use Rattle.device_sides.specs.Sides.{HasNumbered, HasTurned, IsSide, MayNotTurn, sender_for}
 
 -- ---- tokens
 
@@ -146,6 +146,7 @@ pub record HasCome (now : ℕ) (next : Next) (old new : Publisher) : Type 0 wher
   pub rows : new.rows.items ≡ old.rows.items
   pub sides : List Side
   pub refreshed : AllZip (IsRefreshedFor old.config now old.senders.items) old.sides.items sides
+  pub sides_are : All (IsSide old.config) sides
   pub came : Comes now next (turned_to now old.senders.items) sides new
 
 -- the same of a publisher of which one may wait

@@ -27,7 +27,7 @@ use Rattle.writer_group.specs.declared.group.Group.{Group}
 use Rattle.writer_group.specs.declared.sampled.Sampled.{Sampled}
 use Rattle.writer_group.specs.Parts.{group_at}
 use Rattle.writer_group.specs.Sealing.{advanced_by}
-use Rattle.writer_group.specs.Standing.{AreRowsOf, HasTickedAt, IsFreshAt, IsGood, IsRefreshed, IsReserved, KeepsTo, MayTickAt, datagrams_in, index_of, input_of, writer_count}
+use Rattle.writer_group.specs.Standing.{AreLogged, AreRowsOf, HasTickedAt, IsFreshAt, IsGood, IsRefreshed, IsReserved, KeepsTo, MayTickAt, MayTurnAt, datagrams_in, index_of, input_of, writer_count}
 use Rattle.device_sides.specs.declared.listening.Listening.{Listening}
 use Rattle.device_sides.specs.declared.publisher.Publisher.{Publisher}
 use Rattle.device_sides.specs.declared.side.Side.{Side}
@@ -40,10 +40,16 @@ pub record IsSide (config : Config) (side : Side) : Type 0 where
   pub index : index_of side.group ≡ side.index
   pub keeps_to : KeepsTo config side.group
 
--- the group with this index before its first turn, all of whose writers are on
+-- how many turns a group has in its life at most
+abbrev pub most_turns : ℕ
+most_turns = 2 ^ 62
+
+-- the group with this index before its first turn, all of whose writers are on: it may have all turns of a life, of whichever metas, and logs none of them
 pub record IsOpeningSide (config : Config) (index : ℕ) (side : Side) : Type 0 where
   pub index_is : side.index ≡ index
   pub fresh : IsFreshAt config index side.group
+  pub may_turn : MayTurnAt config index most_turns side.group
+  pub unlogged : AreLogged 0 side.group
   pub on : side.on.items ≡ replicate (length (group_at config index).writer) true
 
 -- one of each group of the configuration, in its order
@@ -207,6 +213,7 @@ IsStatusMisfit metas set field status = set < length metas → HoldsAt (λ meta.
 -- the writer of the group with this index is on from now on, or off, and nothing else changed
 pub record HasWriterSwitched (group writer : ℕ) (on : Bool) (old new : Publisher) : Type 0 where
   pub within : group < length old.sides.items
+  pub has : HoldsAt (HasWriter writer) old.sides.items group
   pub is : HoldsAt (λ was. HoldsAt (λ is. HasSwitched writer on was is) new.sides.items group) old.sides.items group
   pub others : HoldsAt (λ is. new.sides.items ≡ slice_set old.sides.items group is) new.sides.items group
   pub rest : new ≡ record old { sides = new.sides }

@@ -4,6 +4,7 @@ ghost use Rattle.std.specs.Bool.{OnTrue, OnFalse};
 ghost use Rattle.std.specs.List.{AllZip};
 ghost use Rattle.group_keys.specs.Ring.{is_long, key_sets};
 ghost use Rattle.ps_config.specs.Reading.{configuration, IsEnd};
+ghost use Rattle.ps_config.specs.Types.{HasTypes};
 ghost use Rattle.writer_group.specs.Standing.{IsGood, IsReserved, datagrams_in};
 ghost use Rattle.device_sides.specs.Coming.{Comes, HasCome, IsWaiting};
 ghost use Rattle.device_sides.specs.Looking.{Counts, HasLooked};
@@ -46,6 +47,7 @@ impl Publisher {
     pub fn open(alloc: Global, text: &[u8]) -> Result<Publisher, ConfigEnd>
         ensures publisher { IfOk result IsPublisher }
         ensures ok { IfOk result (λ publisher. configuration text.now ≡ Ok publisher.config) }
+        ensures types { IfOk result (λ publisher. HasTypes publisher.config) }
         ensures rows { IfOk result (λ publisher.
             AllZip IsOpeningRow publisher.config.dataset publisher.rows.items) }
         ensures senders { IfOk result (λ publisher.

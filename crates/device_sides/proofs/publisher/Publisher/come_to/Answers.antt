@@ -55,6 +55,7 @@ returns-clause-came c = λ none.
           (subst (λ (l : List Side). AllZip (IsRefreshedFor self.config c.args.now self.senders.items) l c.turn_senders.new.sides) c.deref_mut.ensures.value
           (subst (λ (l : List SenderState). AllZip (IsRefreshedFor self.config c.args.now l) c.deref_mut.result.now c.turn_senders.new.sides) c.deref_mut-2.ensures.value
           c.turn_senders.ensures.refreshed));
+      sides_are = subst (λ (l : List Side). All (IsSide self.config) l) (sym sides) c.turn_senders.ensures.sides;
       came = subst (λ (l : List SenderState). Comes c.args.now c.turn_due.result l mid c.turn_due.new.self)
           (senders ∙ c.turn_senders.ensures.state ∙ ap (λ (l : List SenderState). turned_to c.args.now l) c.deref_mut-2.ensures.value) c.turn_due.ensures.came;
     }
