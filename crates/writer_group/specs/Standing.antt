@@ -1,5 +1,5 @@
 -- Where a group stands after what it lived through, and the conditions of its turns.
-use Rattle.std.specs.Prelude.{◌≡◌, ◌≢◌, ℕ, ◌+◌, ◌%◌, ◌<◌, ◌≤◌, Bool, true, false, List, [], ◌∷◌, length, map, slice_range, All, Option, option_map, is_some, IfSome, vec_len, vec_capacity, ⊤}
+use Rattle.std.specs.Prelude.{◌≡◌, ◌≢◌, ℕ, ◌+◌, ◌%◌, ◌^◌, ◌<◌, ◌≤◌, Bool, true, false, List, [], ◌∷◌, length, map, slice_range, All, Option, option_map, is_some, IfSome, vec_len, vec_capacity, ⊤}
 use Rattle.std.specs.List.{HoldsAt, AllZip}
 use Rattle.seq_number.specs.Numbers.{number_of_place}
 use Rattle.dataset_meta.specs.Metas.{MetaData}
@@ -200,6 +200,18 @@ abbrev pub TellsDue : Group → ℕ → Bool → Type 0
 TellsDue group now due =
     (config : Config) (part : GroupPart) (metas : ℕ → MetaData) (past : List GroupDeed) → IsMadeFor config part group
     → IsGroup metas part past group → due ≡ is_due part past now
+
+-- the moment is an interval behind the last turn: it is due from then on
+abbrev pub TellsDueFrom : Group → ℕ → Type 0
+TellsDueFrom group moment =
+    (config : Config) (part : GroupPart) (metas : ℕ → MetaData) (past : List GroupDeed) → IsMadeFor config part group
+    → IsGroup metas part past group → moment ≡ last_moment past + part.interval
+
+-- 64 bits don't hold that moment
+abbrev pub IsNeverDue : Group → Type 0
+IsNeverDue group =
+    (config : Config) (part : GroupPart) (metas : ℕ → MetaData) (past : List GroupDeed) → IsMadeFor config part group
+    → IsGroup metas part past group → 2 ^ 64 ≤ last_moment past + part.interval
 
 -- the moment is the greatest multiple of the interval that has passed
 pub record IsMomentOf (interval now moment : ℕ) : Type 0 where

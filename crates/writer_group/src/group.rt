@@ -1,12 +1,12 @@
 //! Groups of writers.
-ghost use Rattle.std.specs.Prelude.{◌≡◌, ◌↔◌, ◌<◌, ◌≤◌, ◌^◌, All, List, IfOk, IfSome, IsTrue, length, slice_index_or};
+ghost use Rattle.std.specs.Prelude.{◌≡◌, ◌↔◌, ◌<◌, ◌≤◌, ◌^◌, All, List, IfNone, IfOk, IfSome, IsTrue, length, slice_index_or};
 ghost use Rattle.std.specs.Option.{ForSome, option_copied};
 ghost use Rattle.message_guard.specs.Senders.{IsSender};
 ghost use Rattle.writer_group.specs.Limits.{most_datagrams};
 ghost use Rattle.writer_group.specs.Lending.{lent_in, left_in};
 ghost use Rattle.writer_group.specs.Answering.{HaveAnswered, MayAnswer, MayGo};
 ghost use Rattle.writer_group.specs.Making.{AreSpelled, passed, spelled_in};
-ghost use Rattle.writer_group.specs.Standing.{datagrams_in, index_of, writer_count, AreLogged, AreRowsOf, GoesOnAt, GoesOnRefreshed, IsLoggedIn, KeepsLogs, KeepsOnLogging, KeepsTo, HasTickedAt, IsFreshAt, IsGood, IsInOrder, IsMadeAt, IsRefreshed, IsReserved, IsSenderAfter, IsSenderFor, IsStillMade, IsWriterIn, MayTickAt, MayTurnAt, TellsDue, TellsMoment, input_of};
+ghost use Rattle.writer_group.specs.Standing.{datagrams_in, index_of, writer_count, AreLogged, AreRowsOf, GoesOnAt, GoesOnRefreshed, IsLoggedIn, IsNeverDue, KeepsLogs, KeepsOnLogging, KeepsTo, HasTickedAt, IsFreshAt, IsGood, IsInOrder, IsMadeAt, IsRefreshed, IsReserved, IsSenderAfter, IsSenderFor, IsStillMade, IsWriterIn, MayTickAt, MayTurnAt, TellsDue, TellsDueFrom, TellsMoment, input_of};
 ghost use Rattle.writer_group.specs.Turns.{GroupDeed, told_of};
 
 use crate::answering::answer_all;
@@ -119,6 +119,15 @@ impl Group {
         ensures { TellsDue self.now now result }
     {
         u64::from(self.interval) <= now.saturating_sub(self.turned_at)
+    }
+
+    /// The moment from which on the group is due: a publishing interval after the last turn that wasn't the closing one, or after moment
+    /// 0, in milliseconds. None where 64 bits don't hold it.
+    pub fn due_from(&self) -> Option<u64>
+        ensures from { IfSome result (TellsDueFrom self.now) }
+        ensures never { IfNone result (IsNeverDue self.now) }
+    {
+        self.turned_at.checked_add(u64::from(self.interval))
     }
 
     /// The moment for a turn that comes at `now`: the greatest multiple of the publishing interval that has passed, in milliseconds.
