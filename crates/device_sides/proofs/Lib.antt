@@ -1,9 +1,12 @@
+pub mod Dues
 pub mod Firsts
 pub mod Keys
 pub mod Looks
 pub mod Places
 pub mod Refreshing
+pub mod Rings
 pub mod Rising
 pub mod RowLists
 pub mod Sending
 pub mod Telling
+pub mod Tokens

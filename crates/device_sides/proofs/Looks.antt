@@ -1,7 +1,7 @@
 -- Looks at the groups of a publisher, one after another.
 use Rattle.std.proofs.Common.{◌≡◌, refl, sym, ap, ◌∙◌, subst, arith, ℕ, ◌+◌, ◌<◌, ◌≤◌, Bool, true, false, List, [], ◌∷◌, ◌++◌, length, get_or, set}
 use Rattle.std.specs.Prelude.{◌||◌, All}
-use Rattle.std.specs.List.{Contains, HoldsAt}
+use Rattle.std.specs.List.{AllZip, Contains, HoldsAt}
 use Rattle.std.proofs.lemmas.Bool.{false≢true}
 use Rattle.std.proofs.lemmas.List.{get_or-set_same, get_or_read, length-set, length_push}
 use Rattle.std.proofs.lemmas.List.Elements.{All-nil, All-push, Contains-append_left, Contains-push}
@@ -11,8 +11,8 @@ use Rattle.writer_group.specs.Standing.{IsReserved, datagrams_in}
 use Rattle.writer_group.specs.declared.datagrams.Datagrams.{Datagrams}
 use Rattle.writer_group.specs.declared.sampled.Sampled.{Sampled}
 use Rattle.device_sides.specs.Coming.{AllDid, Did, Does, HasItsTurn, HasMadeSome, HaveAllDone, IsPassed, IsQuiet}
-use Rattle.device_sides.specs.Looking.{Counts, HasLooked, LeavesOut, LeavesSenders, is_held}
-use Rattle.device_sides.specs.Sides.{HasNumbered, IsPublisher, IsSide}
+use Rattle.device_sides.specs.Looking.{Counts, HasLooked, IsFrom, LeavesOut, LeavesSenders, is_held}
+use Rattle.device_sides.specs.Sides.{HasNumbered, HasRing, IsPublisher, IsSide}
 use Rattle.device_sides.specs.declared.looking.Looked.{Looked}
 use Rattle.device_sides.specs.declared.looking.Looked.TheVariants.{Held, Idle, Made}
 use Rattle.device_sides.specs.declared.publisher.Publisher.{Publisher}
@@ -27,11 +27,11 @@ IsBut old mid = mid ≡ record old { sides = mid.sides; senders = mid.senders; o
 
 -- the same with other counts
 abbrev IsCounted : Publisher → Publisher → Type 0
-IsCounted mid new = new ≡ record mid { made = new.made; handed = new.handed }
+IsCounted mid new = new ≡ record mid { from = new.from; made = new.made; handed = new.handed }
 
 but-counted : (old mid new : Publisher) → IsBut old mid → IsCounted mid new
-    → new ≡ record old { sides = mid.sides; senders = mid.senders; out = mid.out; made = new.made; handed = new.handed }
-but-counted old mid new but counted = counted ∙ ap (λ (p : Publisher). record p { made = new.made; handed = new.handed }) but
+    → new ≡ record old { sides = mid.sides; senders = mid.senders; out = mid.out; from = new.from; made = new.made; handed = new.handed }
+but-counted old mid new but counted = counted ∙ ap (λ (p : Publisher). record p { from = new.from; made = new.made; handed = new.handed }) but
 
 counts-on : (looked : Looked) (old mid new : Publisher) → IsBut old mid → Counts looked mid new → Counts looked old new
 counts-on Idle old mid new but counts = (counts.0 ∙ ap (λ (p : Publisher). p.made) but, counts.1 ∙ ap (λ (p : Publisher). p.handed) but)
@@ -50,8 +50,9 @@ handed-count Held old new counts is = omega (arith, counts.0, counts.1, is)
 handed-count (Made made) old new counts is = omega (arith, counts.1)
 
 pub looked-publisher : (looked : Looked) (old mid new : Publisher) → IsPublisher old → IsBut old mid → IsCounted mid new → Counts looked mid new → LeavesOut looked old.out mid.out
-    → All IsSender mid.senders.items → length mid.senders.items ≡ length old.senders.items → All (IsSide old.config) mid.sides.items → IsReserved mid.out → IsPublisher new
-looked-publisher looked old mid new is but counted counts leaves senders count sides reserved =
+    → All IsSender mid.senders.items → length mid.senders.items ≡ length old.senders.items → AllZip HasRing mid.senders.items old.rings.items → All (IsSide old.config) mid.sides.items
+    → IsReserved mid.out → IsPublisher new
+looked-publisher looked old mid new is but counted counts leaves senders count rings sides reserved =
     let on = counts-on looked old mid new but counts in
     subst IsPublisher (sym (but-counted old mid new but counted))
     (record {
@@ -60,6 +61,7 @@ looked-publisher looked old mid new is but counted counts leaves senders count s
       rows_count = is.rows_count;
       senders_are = senders;
       senders_count = count ∙ is.senders_count;
+      rings_are = rings;
       sides_are = sides;
       reserved = reserved;
       made_is = made-count looked old new mid.out leaves on is.made_is;
@@ -67,10 +69,10 @@ looked-publisher looked old mid new is but counted counts leaves senders count s
     })
 
 pub looked-so : (place now : ℕ) (looked : Looked) (old mid new : Publisher) (was is : Side) (rows : List Sampled) (senders left : List SenderState)
-    → IsBut old mid → IsCounted mid new → Counts looked mid new → place < length old.sides.items → was ≡ get_or old.sides.items place was
+    → IsBut old mid → IsCounted mid new → Counts looked mid new → IsFrom looked was.index new → place < length old.sides.items → was ≡ get_or old.sides.items place was
     → rows ≡ old.rows.items → senders ≡ old.senders.items → mid.sides.items ≡ set old.sides.items place is → mid.senders.items ≡ left
     → Did old.config now rows senders mid.out looked was is → LeavesSenders old.config was.index looked senders left → HasLooked place now looked old new
-looked-so place now looked old mid new was is rows senders left but counted counts low was_is rows_are senders_are sides_are left_are did numbers =
+looked-so place now looked old mid new was is rows senders left but counted counts from low was_is rows_are senders_are sides_are left_are did numbers =
     let all = but-counted old mid new but counted in
     let sides : new.sides.items ≡ set old.sides.items place is = ap (λ (p : Publisher). p.sides.items) all ∙ sides_are in
     let out : new.out ≡ mid.out = ap (λ (p : Publisher). p.out) all in
@@ -90,6 +92,7 @@ looked-so place now looked old mid new was is rows senders left but counted coun
           (subst (λ (l : List SenderState). LeavesSenders old.config was.index looked old.senders.items l) (sym (ap (λ (p : Publisher). p.senders.items) all ∙ left_are))
           (subst (λ (l : List SenderState). LeavesSenders old.config was.index looked l left) senders_are numbers));
       counts = counts-on looked old mid new but counts;
+      from = λ d. subst (λ (s : Side). IsFrom looked s.index new) (get_or_read old.sides.items place was low was_is d) from;
     }
 
 -- an element of a list that isn't empty
@@ -255,6 +258,7 @@ made-some-by now place made held old mid new low config rows senders far looked 
           subst (λ (k : Config). HasNumbered k (get_or mid.sides.items place d).index new.made old.senders.items new.senders.items) (sym looked.config)
           (subst (λ (s : List SenderState). HasNumbered mid.config (get_or mid.sides.items place d).index new.made s new.senders.items) senders
           (subst (λ (n : ℕ). HasNumbered mid.config (get_or mid.sides.items place d).index n mid.senders.items new.senders.items) (sym looked.counts.0) (looked.senders d))));
+      from = subst (λ (n : ℕ). HoldsAt (λ (was : Side). new.from ≡ was.index) mid.sides.items n) (sym far.count_is) looked.from;
       some = omega (arith, waits);
       handed = looked.counts.1;
     }

@@ -1,9 +1,9 @@
 -- Senders that never fall back.
-use Rattle.std.proofs.Common.{◌≡◌, ◌≢◌, ℕ, zero, suc, ◌<◌, ◌≤◌, ◌⊎◌, inl, inr, Bool, true, false, List, [], ◌∷◌, length, get_or, set, nat_lt, refl, sym, ap, subst, arith, ◌∙◌}
+use Rattle.std.proofs.Common.{◌≡◌, ◌≢◌, ℕ, zero, suc, ◌+◌, ◌<◌, ◌≤◌, ◌⊎◌, inl, inr, Bool, true, false, List, [], ◌∷◌, length, get_or, set, nat_lt, refl, sym, ap, subst, arith, ◌∙◌}
 use Rattle.std.specs.Prelude.{Option, Some, None, if◌then◌else◌}
 use Rattle.std.proofs.lemmas.Bool.{cases_lt}
 use Rattle.std.proofs.lemmas.Bool.Decides.{nat_tests}
-use Rattle.std.proofs.lemmas.List.{get_or_default, get_or_past}
+use Rattle.std.proofs.lemmas.List.{get_or-map, get_or-set_same, get_or_default, get_or_past, length-map}
 use Rattle.group_keys.specs.KeySets.{current}
 use Rattle.group_keys.specs.declared.key_set.KeySet.{KeySet}
 use Rattle.message_guard.specs.declared.keys.TokenKeys.{TokenKeys}
@@ -15,7 +15,7 @@ use Rattle.ps_config.specs.Headers.{mode_of}
 use Rattle.writer_group.specs.Parts.{group_at}
 use Rattle.writer_group.specs.Sealing.{advanced_by}
 use Rattle.writer_group.proofs.Joining.{advanced-used}
-use Rattle.device_sides.specs.Calls.{AreCalled, Call, Came, FallBackNever, GiveOthers, IsCalled, Other, Renewed, Resumed}
+use Rattle.device_sides.specs.Calls.{AreCalled, Call, Came, FallBackNever, GiveOthers, GivesEach, IsCalled, IsGiven, Other, Renewed, Resumed, number_at}
 use Rattle.device_sides.specs.Coming.{Comes, ComesTo, turned_to}
 use Rattle.device_sides.specs.Resuming.{IsBehind}
 use Rattle.device_sides.specs.Sides.{HasNumbered, HasRenewed, IsBecome, IsNoLess, numbered}
@@ -168,3 +168,35 @@ given-once keygroup (Came now next) calls Other = λ one two three four pair oth
 given-once keygroup (Renewed k sets) calls last = λ one two three four pair other gives between more. absurd gives
 given-once keygroup (Resumed k at used sets) calls last = λ one two three four pair other gives between more. absurd gives
 given-once keygroup Other calls last = λ one two three four pair other gives between more. absurd gives
+
+-- ---- the numbers of a turn
+
+-- the sender of the key group of the group whose datagrams wait, in front of the turn and behind it
+is-given : (now place made : ℕ) (mode : Mode) (was is : SenderState) → place < made → is ≡ advanced_by mode (turned was now) made → IsGiven now (number_at now place was) was is
+is-given now place made mode was is low same = record {
+  turned_token = refl;
+  token = sym (ap (λ (s : SenderState). s.keys.token) same ∙ ap (λ (k : TokenKeys). k.token) (advanced-keys mode (turned was now) made));
+  follows = omega arith;
+  used = let used : is.used ≡ (turned was now).used + made = ap (λ (s : SenderState). s.used) same ∙ advanced-used mode (turned was now) made in omega (arith, low, used);
+}
+
+pub gives-each : (keygroup now : ℕ) (old new : Publisher) → GivesEach keygroup now old new
+gives-each keygroup now old new has within from place low =
+    λ d was_d is_d.
+    let some = has.came in
+    let side = some-side some.mid (length some.did) some.within in
+    let config = new.config in
+    let senders = turned_to now old.senders.items in
+    let numbers : HasNumbered config new.from new.made senders new.senders.items =
+    subst (λ (index : ℕ). HasNumbered config index new.made senders new.senders.items) (sym (some.from side)) (some.numbers side) in
+    let become : IsBecome (Some keygroup) (numbered config new.from new.made) senders new.senders.items =
+    subst (λ (k : Option ℕ). IsBecome k (numbered config new.from new.made) senders new.senders.items) from numbers in
+    let before = get_or old.senders.items keygroup was_d in
+    let mapped : get_or senders keygroup was_d ≡ turned before now = get_or-map (λ (s : SenderState). turned s now) old.senders.items keygroup was_d was_d within in
+    let many : length senders ≡ length old.senders.items = length-map old.senders.items (λ (s : SenderState). turned s now) in
+    let after : get_or new.senders.items keygroup is_d ≡ numbered config new.from new.made (turned before now) =
+    ap (λ (l : List SenderState). get_or l keygroup is_d) (become was_d)
+    ∙ get_or-set_same senders keygroup (numbered config new.from new.made (get_or senders keygroup was_d)) is_d (omega (arith, within, many))
+    ∙ ap (numbered config new.from new.made) mapped in
+    subst (λ (s : SenderState). IsGiven now (number_at now place s) before (get_or new.senders.items keygroup is_d)) (get_or_default old.senders.items keygroup was_d d within)
+    (is-given now place new.made (mode_of (group_at config new.from).security) before (get_or new.senders.items keygroup is_d) low after)

@@ -1,11 +1,13 @@
 -- The calls of a publisher, one after another, and what they make of its senders.
-use Rattle.std.specs.Prelude.{◌≡◌, ◌≢◌, ℕ, ◌<◌, ◌≤◌, List, [], ◌∷◌}
+use Rattle.std.specs.Prelude.{◌≡◌, ◌≢◌, ℕ, ◌+◌, ◌<◌, ◌≤◌, List, [], ◌∷◌, length, Some}
 use Rattle.std.specs.List.{AllZip, HoldsAt}
 use Rattle.group_keys.specs.declared.key_set.KeySet.{KeySet}
 use Rattle.message_guard.specs.Senders.{SenderState, turned}
+use Rattle.writer_group.specs.Parts.{group_at}
 use Rattle.device_sides.specs.declared.asked.Next.{Next}
+use Rattle.device_sides.specs.declared.asked.Next.TheVariants.{Datagram}
 use Rattle.device_sides.specs.declared.publisher.Publisher.{Publisher}
-use Rattle.device_sides.specs.Coming.{ComesTo}
+use Rattle.device_sides.specs.Coming.{ComesTo, HasCome}
 use Rattle.device_sides.specs.Resuming.{IsBehind}
 use Rattle.device_sides.specs.Sides.{HasRenewed, IsNoLess}
 
@@ -51,3 +53,19 @@ Gives keygroup Other old new pair = ⊥
 abbrev pub GiveOthers : ℕ → Call → List Call → Call → Type 0
 GiveOthers keygroup first calls last =
     (one two three four : Publisher) (pair other : ℕ × ℕ) → Gives keygroup first one two pair → AreCalled calls two three → Gives keygroup last three four other → pair ≢ other
+
+-- ---- the numbers of a turn
+
+-- the group whose datagrams wait is secured with the keys of this key group
+abbrev pub IsFromGroupOf : ℕ → Publisher → Type 0
+IsFromGroupOf keygroup publisher = (group_at publisher.config publisher.from).keygroup ≡ Some keygroup
+
+-- the token, and the number of the datagram at this place among those of a turn, by its sender before it turned to the moment
+abbrev pub number_at : ℕ → ℕ → SenderState → ℕ × ℕ
+number_at now place was = ((turned was now).keys.token, (turned was now).used + place + 1)
+
+-- each datagram that was made as the publisher came to the moment took a number of its own, in their order
+abbrev pub GivesEach : ℕ → ℕ → Publisher → Publisher → Type 0
+GivesEach keygroup now old new =
+    HasCome now Datagram old new → keygroup < length old.senders.items → IsFromGroupOf keygroup new → (place : ℕ) → place < new.made
+    → HoldsAt (λ was. Gives keygroup (Came now Datagram) old new (number_at now place was)) old.senders.items keygroup

@@ -115,7 +115,8 @@ pub record HaveAllDone (now : ℕ) (senders : List SenderState) (sides : List Si
   pub senders_are : new.senders.items ≡ senders
   pub none_waits : new.made ≤ new.handed
 
--- some groups made no datagram, and the one behind them has a turn, of which the datagrams that wait came, each under a number of its own; those behind it stay
+-- some groups made no datagram, and the one behind them has a turn, of which the datagrams that wait came, each under a number of its own, and its index is kept; those
+-- behind it stay
 pub record HasMadeSome (now : ℕ) (senders : List SenderState) (sides : List Side) (new : Publisher) : Type 0 where
   pub did : List Looked
   pub passed : All IsPassed did
@@ -126,6 +127,7 @@ pub record HasMadeSome (now : ℕ) (senders : List SenderState) (sides : List Si
       new.sides.items (length did)) mid (length did)
   pub others : HoldsAt (λ is. new.sides.items ≡ slice_set mid (length did) is) new.sides.items (length did)
   pub numbers : HoldsAt (λ was. HasNumbered new.config was.index new.made senders new.senders.items) mid (length did)
+  pub from : HoldsAt (λ was. new.from ≡ was.index) mid (length did)
   pub some : 0 < new.made
   pub handed : new.handed ≡ 0
 

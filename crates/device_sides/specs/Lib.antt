@@ -1,5 +1,6 @@
 pub mod Calls
 pub mod Coming
+pub mod Due
 pub mod Looking
 pub mod Raising
 pub mod Readings

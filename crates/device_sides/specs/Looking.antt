@@ -1,5 +1,5 @@
 -- What one look at a group leaves of its publisher.
-use Rattle.std.specs.Prelude.{◌≡◌, ℕ, Bool, true, false, List, length, slice_set}
+use Rattle.std.specs.Prelude.{◌≡◌, ℕ, Bool, true, false, List, length, slice_set, ⊤}
 use Rattle.std.specs.List.{HoldsAt}
 use Rattle.message_guard.specs.Senders.{SenderState}
 use Rattle.ps_config.specs.declared.parts.Config.{Config}
@@ -34,6 +34,12 @@ Counts Idle old new = (new.made ≡ old.made) × (new.handed ≡ old.handed)
 Counts Held old new = (new.made ≡ old.made) × (new.handed ≡ old.handed)
 Counts (Made made) old new = (new.made ≡ made) × (new.handed ≡ 0)
 
+-- behind a turn the group's index is kept
+abbrev pub IsFrom : Looked → ℕ → Publisher → Type 0
+IsFrom Idle index new = ⊤
+IsFrom Held index new = ⊤
+IsFrom (Made made) index new = new.from ≡ index
+
 -- the group at this place was looked at at the moment, and the others stay
 pub record HasLooked (place now : ℕ) (looked : Looked) (old new : Publisher) : Type 0 where
   pub config : new.config ≡ old.config
@@ -42,3 +48,4 @@ pub record HasLooked (place now : ℕ) (looked : Looked) (old new : Publisher) :
   pub others : HoldsAt (λ is. new.sides.items ≡ slice_set old.sides.items place is) new.sides.items place
   pub senders : HoldsAt (λ was. LeavesSenders old.config was.index looked old.senders.items new.senders.items) old.sides.items place
   pub counts : Counts looked old new
+  pub from : HoldsAt (λ was. IsFrom looked was.index new) old.sides.items place

@@ -31,7 +31,7 @@ pub record IsBehind (keygroup now used : ℕ) (sets : List KeySet) (old new : Pu
   pub others : HoldsAt (λ is. new.senders.items ≡ slice_set old.senders.items keygroup is) new.senders.items keygroup
   pub refreshed : HoldsAt (λ was. HoldsAt (λ is. AllZip (IsRefreshedWith old.config keygroup (HasOtherToken was is)) old.sides.items new.sides.items)
       new.senders.items keygroup) old.senders.items keygroup
-  pub rest : new ≡ record old { senders = new.senders; sides = new.sides }
+  pub rest : new ≡ record old { senders = new.senders; rings = new.rings; sides = new.sides }
 
 -- the same with the key sets of the configuration
 abbrev pub IsBehindConfigured : ℕ → ℕ → ℕ → Publisher → Publisher → Type 0

@@ -2,15 +2,18 @@
 use Rattle.std.specs.Prelude.{◌≡◌, ℕ, ◌+◌, ◌%◌, ◌^◌, ◌<◌, ◌≤◌, Bool, true, false, List, length, map, replicate, slice_get, slice_set, ◌⊎◌, All, Option, Some, None, option_map, Result}
 use Rattle.std.specs.List.{AllZip, HoldsAt, range_with_len}
 use Rattle.ua_values.specs.declared.value.Value.{Value}
-use Rattle.dataset_meta.specs.DataValues.{IsStatus}
+use Rattle.dataset_meta.specs.DataValues.{DataValue, IsStatus}
 use Rattle.dataset_meta.specs.Metas.{MetaData}
 use Rattle.dataset_meta.specs.Rows.{FitsAt, opening_row}
 use Rattle.ua_values.specs.declared.kind.Kind.{Kind}
 use Rattle.row_words.specs.Belonging.{row_in}
+use Rattle.row_words.specs.declared.row.Row.{Row}
 use Rattle.row_words.specs.Setting.{with_status, with_value}
 use Rattle.row_words.specs.Words.{IsWordOf, is_scalar, scalar_in}
 use Rattle.group_keys.specs.declared.key_set.KeySet.{KeySet}
 use Rattle.group_keys.specs.KeySets.{current}
+use Rattle.group_keys.specs.Ring.{key_sets}
+use Rattle.group_keys.specs.declared.ring.Ring.{Ring}
 use Rattle.message_guard.specs.Protection.{keys_in}
 use Rattle.message_guard.specs.Senders.{SenderState, IsSender, renewed}
 use Rattle.ps_config.specs.declared.parts.Config.{Config}
@@ -73,9 +76,13 @@ pub record HasTurned (config : Config) (moment : ℕ) (rows : List Sampled) (sen
   pub on : new.on ≡ old.on
   pub index : new.index ≡ old.index
 
--- the group may have no turn with these rows and this sender
+-- the group may have a turn with these rows and this sender
+abbrev pub MayTurn : Config → List Sampled → Option SenderState → Side → Type 0
+MayTurn config rows sender side = MayTickAt config config.dataset rows side.on.items sender side.group
+
+-- it may have none
 abbrev pub MayNotTurn : Config → List Sampled → Option SenderState → Side → Type 0
-MayNotTurn config rows sender side = ¬ MayTickAt config config.dataset rows side.on.items sender side.group
+MayNotTurn config rows sender side = ¬ MayTurn config rows sender side
 
 -- the sender with a front given for each of so many datagrams of the group with this index
 abbrev pub numbered : Config → ℕ → ℕ → SenderState → SenderState
@@ -113,12 +120,17 @@ pub record IsOpeningRow (meta : MetaData) (sampled : Sampled) : Type 0 where
   pub row : row_in meta.fields sampled.row.words ≡ opening_row meta.fields
   pub version_is : sampled.version ≡ 0
 
+-- the ring has the key sets of the sender
+abbrev pub HasRing : SenderState → Ring → Type 0
+HasRing sender ring = key_sets ring ≡ sender.sets
+
 pub record IsPublisher (publisher : Publisher) : Type 0 where
   pub good : IsGood publisher.config
   pub rows_are : AreRowsOf publisher.config.dataset publisher.rows.items
   pub rows_count : length publisher.rows.items ≡ length publisher.config.dataset
   pub senders_are : All IsSender publisher.senders.items
   pub senders_count : length publisher.senders.items ≡ length publisher.config.keygroup
+  pub rings_are : AllZip HasRing publisher.senders.items publisher.rings.items
   pub sides_are : All (IsSide publisher.config) publisher.sides.items
   pub reserved : IsReserved publisher.out
   pub made_is : publisher.made ≡ length (datagrams_in publisher.out)
@@ -182,6 +194,22 @@ pub record MayHaveStatus (meta : MetaData) (field status : ℕ) : Type 0 where
   pub within : field < length meta.fields
   pub is_status : IsStatus meta.quality status
 
+-- ---- what is read back
+
+-- the row of the data set with this index, by the fields of its meta, is so
+pub record RowIs (set : ℕ) (so : List DataValue → Type 0) (metas : List MetaData) (rows : List Sampled) : Type 0 where
+  pub within : set < length metas
+  pub is : HoldsAt (λ meta. HoldsAt (λ sampled. so (row_in meta.fields sampled.row.words)) rows set) metas set
+
+-- where there is a data set with this index, its field isn't there, or isn't of this kind, or this isn't a scalar's
+abbrev pub HasNoScalar : List MetaData → ℕ → ℕ → Kind → Type 0
+HasNoScalar metas set field kind = set < length metas → HoldsAt (λ meta. ¬ IsScalarAt meta field kind) metas set
+
+-- it is the row of the data set with this index
+pub record IsRowAt (set : ℕ) (publisher : Publisher) (row : Row) : Type 0 where
+  pub within : set < length publisher.rows.items
+  pub is : HoldsAt (λ sampled. row ≡ sampled.row) publisher.rows.items set
+
 -- ---- what isn't set
 
 -- there is a data set with this index, and a field with this index in it
@@ -232,7 +260,7 @@ pub record StandsAt (keygroup : ℕ) (publisher : Publisher) (standing : ℕ × 
 pub record HasRenewed (keygroup : ℕ) (sets : List KeySet) (old new : Publisher) : Type 0 where
   pub within : keygroup < length old.senders.items
   pub is : HoldsAt (λ sender. new.senders.items ≡ slice_set old.senders.items keygroup (renewed sender sets)) old.senders.items keygroup
-  pub rest : new ≡ record old { senders = new.senders }
+  pub rest : new ≡ record old { senders = new.senders; rings = new.rings }
 
 -- of two tokens with the number used last under each, the second is that of a later token, or of the same one with no lower number
 abbrev pub IsNoLower : ℕ × ℕ → ℕ × ℕ → Type 0
@@ -245,6 +273,10 @@ IsNoLess was is = IsNoLower (was.keys.token, was.used) (is.keys.token, is.used)
 -- the key sets that the configuration gives the key group
 abbrev pub configured_sets : KeyGroupPart → List KeySet
 configured_sets part = map key_set part.key
+
+-- the ring has these key sets
+abbrev pub IsConfiguredRing : KeyGroupPart → Ring → Type 0
+IsConfiguredRing part ring = key_sets ring ≡ configured_sets part
 
 -- the sender of this key group that goes on behind so many numbers of the last of these key sets whose moment has come at this moment
 pub record IsResumed (part : KeyGroupPart) (sets : List KeySet) (now used : ℕ) (sender : SenderState) : Type 0 where

@@ -3,6 +3,7 @@
 #![tactic(auto)]
 
 mod asked;
+mod due;
 mod laws;
 mod listening;
 mod looking;
@@ -15,7 +16,10 @@ mod subscriber;
 mod words;
 
 pub use asked::{Next, NoValue};
-pub use laws::{a_token_and_number_is_given_once, no_sender_falls_back};
+pub use laws::{
+    a_token_and_number_is_given_once, each_datagram_of_a_turn_is_given_its_number,
+    no_sender_falls_back,
+};
 pub use listening::Listening;
 pub use publisher::Publisher;
 pub use side::Side;

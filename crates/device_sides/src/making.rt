@@ -5,7 +5,7 @@ ghost use Rattle.group_keys.specs.Ring.{key_sets};
 ghost use Rattle.message_guard.specs.Senders.{IsSender};
 ghost use Rattle.ps_config.specs.Sound.{IsKeyGroup};
 ghost use Rattle.writer_group.specs.Standing.{AreRowsOf, IsGood};
-ghost use Rattle.device_sides.specs.Sides.{AreOpeningListenings, AreOpeningSides, HasLongKeys, IsKeyedBy, IsListening, IsOpeningRow, IsOpeningSender, IsResumed, IsSide, IsUnkeyed};
+ghost use Rattle.device_sides.specs.Sides.{AreOpeningListenings, AreOpeningSides, HasLongKeys, IsConfiguredRing, IsKeyedBy, IsListening, IsOpeningRow, IsOpeningSender, IsResumed, IsSide, IsUnkeyed};
 
 use crate::listening::Listening;
 use crate::side::Side;
@@ -45,6 +45,28 @@ pub fn senders_of(alloc: Global, keygroups: &[KeyGroupPart]) -> Result<Vec<Sende
         senders.push(sender_with(keygroup, ring, 0, keygroup.used))?;
     }
     Ok(senders)
+}
+
+/// The ring of each key group's keys.
+pub fn rings_of(alloc: Global, keygroups: &[KeyGroupPart]) -> Result<Vec<Ring>, NoMemory>
+    requires { All IsKeyGroup keygroups.now }
+    ensures opening { IfOk result (λ rings. AllZip IsConfiguredRing keygroups.now rings.items) }
+{
+    let mut rings = Vec::new(alloc);
+    for keygroup in keygroups {
+        rings.push(ring_of(keygroup))?;
+    }
+    Ok(rings)
+}
+
+/// The same ring once more.
+pub fn copy_of(ring: &Ring) -> Ring
+    ensures { key_sets result ≡ key_sets ring.now }
+{
+    match ring.clone() {
+        Ok(copy) => copy,
+        Err(_) => unreachable!(),
+    }
 }
 
 /// The sender of a key group with this ring, behind so many numbers.

@@ -1,26 +1,31 @@
 //! Publishers.
-ghost use Rattle.std.specs.Prelude.{◌≡◌, ◌↔◌, ◌<◌, ◌≤◌, ◌+◌, ◌⊎◌, ◌||◌, [], IsTrue, IfOk, IfErr, IfSome, IfNone, Ok, length, slice_index_or};
+ghost use Rattle.std.specs.Prelude.{◌≡◌, ◌↔◌, ◌<◌, ◌≤◌, ◌+◌, ◌⊎◌, ◌||◌, [], IsTrue, IfOk, IfErr, IfSome, IfNone, Ok, Some, length, slice_index_or};
 ghost use Rattle.std.specs.Bool.{OnTrue, OnFalse};
 ghost use Rattle.std.specs.List.{AllZip};
 ghost use Rattle.group_keys.specs.Ring.{is_long, key_sets};
 ghost use Rattle.ps_config.specs.Reading.{configuration, IsEnd};
 ghost use Rattle.ps_config.specs.Types.{HasTypes};
+ghost use Rattle.row_words.specs.Setting.{HasStatus, HasValue};
+ghost use Rattle.row_words.specs.Words.{scalar_in};
 ghost use Rattle.writer_group.specs.Standing.{IsGood, IsReserved, datagrams_in};
 ghost use Rattle.device_sides.specs.Coming.{Comes, HasCome, IsWaiting};
-ghost use Rattle.device_sides.specs.Looking.{Counts, HasLooked};
+ghost use Rattle.device_sides.specs.Due.{IsCalm, IsDue, IsSpentAt, TellsFirst};
+ghost use Rattle.device_sides.specs.Looking.{Counts, HasLooked, IsFrom};
 ghost use Rattle.device_sides.specs.Resuming.{IsBehind, IsBehindConfigured, IsEarlier, MayNotResume, MayNotResumeConfigured};
-ghost use Rattle.device_sides.specs.Sides.{AreOpeningSides, FitsKeyGroup, HasField, HasLongKeys, HasNoField, HasNoWriter, HasRenewed, HasSet, HasSetStatus, HasSetWord, HasWriterSwitched, IsMisfit, IsNoLower, IsOpeningRow, IsOpeningSender, IsPublisher, IsStatusMisfit, IsWordMisfit, StandsAt};
+ghost use Rattle.device_sides.specs.Sides.{AreOpeningSides, FitsKeyGroup, HasField, HasLongKeys, HasNoField, HasNoScalar, HasNoWriter, HasRenewed, HasSet, HasSetStatus, HasSetWord, HasWriterSwitched, IsMisfit, IsNoLower, IsOpeningRow, IsOpeningSender, IsPublisher, IsRowAt, IsStatusMisfit, IsWordMisfit, RowIs, StandsAt};
 
 use crate::asked::Next;
+use crate::due::{earlier, groups_due, keys_due};
 use crate::looking::{Looked, is_held, look};
-use crate::making::{has_long_keys, rows_of, sender_with, senders_of, sides_of};
-use crate::rows::{set_in, set_status_in, set_word_in};
+use crate::making::{copy_of, has_long_keys, rings_of, rows_of, sender_with, senders_of, sides_of};
+use crate::rows::{field_in, set_in, set_status_in, set_word_in, word_in};
 use crate::side::Side;
 use crate::sides::{refresh_with, turn_senders};
 use crate::words::has_field_at;
 use group_keys::Ring;
 use message_guard::Sender;
 use ps_config::{Config, ConfigEnd, read_config, ring_of};
+use row_words::Row;
 use std::alloc::Global;
 use ua_base::NoMemory;
 use ua_values::{Kind, Value};
@@ -34,9 +39,13 @@ pub struct Publisher {
     pub rows: Vec<Sampled>,
     /// A sender of each key group.
     pub senders: Vec<Sender>,
+    /// The ring of each of them once more, which tells when its next token comes.
+    pub rings: Vec<Ring>,
     pub sides: Vec<Side>,
     /// The datagrams of the last turn, of whichever group.
     pub out: Datagrams,
+    /// The index of that group.
+    pub from: u8,
     /// How many there are, and how many of them were handed over.
     pub made: u32,
     pub handed: u32,
@@ -121,6 +130,75 @@ impl Publisher {
         has_field_at(&metas[index], field)
     }
 
+    /// The publisher's own row of the data set with this index.
+    pub fn row(&self, set: u8) -> Option<&Row>
+        ensures row { IfSome result (λ row. IsRowAt set self.now row.now) }
+        ensures none { IfNone result (length self.now.rows.items ≤ set) }
+    {
+        let index = usize::from(set);
+        if index >= self.rows.len() {
+            return None;
+        }
+        Some(&self.rows[index].row)
+    }
+
+    /// The value and the status of a field of the publisher's own row, by the indexes of its data set and of the field in it. None
+    /// where there is no such field.
+    pub fn field(&self, set: u8, field: u8) -> Option<(Value, u32)>
+        requires { IsPublisher self.now }
+        ensures value { IfSome result (λ x. RowIs set (λ row. HasValue row field x.0)
+            self.now.config.dataset self.now.rows.items) }
+        ensures status { IfSome result (λ x. RowIs set (λ row. HasStatus row field x.1)
+            self.now.config.dataset self.now.rows.items) }
+        ensures none { IfNone result (HasNoField self.now.config.dataset set field) }
+    {
+        let metas = self.config.dataset.as_slice();
+        field_in(metas, &self.rows, set, field)
+    }
+
+    /// The word of a field of this kind, which is a scalar's, of the publisher's own row (`Row::word`). None where there is no such
+    /// field, or where it isn't of that kind.
+    pub fn word(&self, set: u8, field: u8, kind: Kind) -> Option<u64>
+        requires { IsPublisher self.now }
+        ensures word { IfSome result (λ word. RowIs set (λ row. HasValue row field
+            (scalar_in kind word)) self.now.config.dataset self.now.rows.items) }
+        ensures none { IfNone result (HasNoScalar self.now.config.dataset set field kind) }
+    {
+        let metas = self.config.dataset.as_slice();
+        word_in(metas, &self.rows, set, field, kind)
+    }
+
+    /// The first moment from `now` on, in milliseconds, at which the publisher has something to do: at once where a datagram waits;
+    /// else as soon as a group is due that may have its turn, or a key group's next key set begins. So a program may sleep until
+    /// then, unless it makes another call before. None where nothing will ever be due.
+    pub fn due(&self, now: u64) -> Option<u64>
+        requires { IsPublisher self.now }
+        ensures waits { self.now.handed < self.now.made → result ≡ Some now }
+        ensures first { self.now.made ≤ self.now.handed
+            → TellsFirst now (IsCalm self.now) (IsDue self.now) result }
+    {
+        if self.is_waiting() {
+            return Some(now);
+        }
+        let groups = groups_due(&self.config, &self.sides, now, &self.rows, &self.senders);
+        let keys = keys_due(&self.rings, &self.senders, now);
+        earlier(groups, keys)
+    }
+
+    /// Whether the group with this index can have no turn: the token in use of its key group has fewer than 1,024 numbers left, or all
+    /// turns of its life are over. None where there is no such group.
+    pub fn is_spent(&self, group: u8) -> Option<bool>
+        requires { IsPublisher self.now }
+        ensures spent { IfSome result (IsSpentAt group self.now) }
+        ensures none { IfNone result (length self.now.sides.items ≤ group) }
+    {
+        let index = usize::from(group);
+        if index >= self.sides.len() {
+            return None;
+        }
+        Some(!self.sides[index].may_turn(&self.config, &self.rows, &self.senders))
+    }
+
     /// What the publisher has at `now`, in milliseconds, which must not fall. Where no datagram waits, the senders turn to `now`, and
     /// where a token changes the groups that are secured with its keys send key frames next. Then groups that are due have their turns,
     /// in order, until one makes a datagram. A group's turn counts as that of the last multiple of its interval, so that it doesn't
@@ -154,6 +232,18 @@ impl Publisher {
         ensures { result.now ≡ slice_index_or (datagrams_in self.now.out) self.now.handed [] }
     {
         self.out.get(self.handed)
+    }
+
+    /// The index of the group whose datagram waits. None where none waits.
+    pub fn waiting_group(&self) -> Option<u8>
+        ensures group { IfSome result (λ group. group ≡ self.now.from) }
+        ensures waits { IfSome result (λ group. self.now.handed < self.now.made) }
+        ensures none { IfNone result (self.now.made ≤ self.now.handed) }
+    {
+        if !self.is_waiting() {
+            return None;
+        }
+        Some(self.from)
     }
 
     /// The datagram that waits was sent, or dropped: the one behind it waits.
@@ -200,7 +290,8 @@ impl Publisher {
 
     /// The key group with this index goes on with another ring (`Sender::renew`), whose keys have to be as long as the key group's:
     /// `has_long_keys` tells how long these are. The token in use stays until `come_to` finds a higher one, and key frames follow then.
-    /// False, and nothing changes, where there is no such key group.
+    /// The answer is true also where no token of the ring is higher: then the token in use stays, with its keys. False, and nothing
+    /// changes, where there is no such key group.
     pub fn renew(&mut self, keygroup: u8, ring: Ring) -> bool
         requires publisher { IsPublisher self.old }
         requires long { FitsKeyGroup self.old.config keygroup (is_long ring) }
@@ -213,6 +304,7 @@ impl Publisher {
         if index >= self.senders.len() {
             return false;
         }
+        self.rings[index] = copy_of(&ring);
         self.senders[index].renew(ring);
         true
     }
@@ -285,12 +377,14 @@ impl Publisher {
         if index >= keygroups.len() {
             return false;
         }
+        let copy = copy_of(&ring);
         let sender = sender_with(&keygroups[index], ring, now, used);
         let (new, old) = (sender.standing(), self.senders[index].standing());
         if !is_behind(new, old) {
             return false;
         }
         self.senders[index] = sender;
+        self.rings[index] = copy;
         refresh_with(&self.config, &mut self.sides, keygroup, new.0 != old.0);
         true
     }
@@ -323,6 +417,7 @@ impl Publisher {
         ensures publisher { IsPublisher self.new }
         ensures looked { HasLooked index now result self.old self.new }
     {
+        let from = self.sides[index].index;
         let looked = look(
             &self.config,
             &mut self.sides[index],
@@ -331,14 +426,16 @@ impl Publisher {
             &mut self.senders,
             &mut self.out,
         );
-        self.count(looked);
+        self.count(from, looked);
         looked
     }
 
-    /// Counts the datagrams of a turn, of which none was handed over.
-    fn count(&mut self, looked: Looked)
+    /// Counts the datagrams of a turn of the group with this index, of which none was handed over.
+    fn count(&mut self, from: u8, looked: Looked)
         ensures counts { Counts looked self.old self.new }
+        ensures from { IsFrom looked from self.new }
         ensures rest { self.new ≡ record self.old {
+          from = self.new.from;
           made = self.new.made;
           handed = self.new.handed;
         } }
@@ -347,6 +444,7 @@ impl Publisher {
             Looked::Idle => {}
             Looked::Held => {}
             Looked::Made(made) => {
+                self.from = from;
                 self.made = made;
                 self.handed = 0;
             }
@@ -374,14 +472,17 @@ fn publisher_of(alloc: Global, config: Config) -> Result<Publisher, NoMemory>
 {
     let rows = rows_of(alloc, config.dataset.as_slice())?;
     let senders = senders_of(alloc, config.keygroup.as_slice())?;
+    let rings = rings_of(alloc, config.keygroup.as_slice())?;
     let sides = sides_of(alloc, &config)?;
     let out = Datagrams::new(alloc)?;
     Ok(Publisher {
         config,
         rows,
         senders,
+        rings,
         sides,
         out,
+        from: 0,
         made: 0,
         handed: 0,
     })

@@ -1,15 +1,16 @@
 //! The rows of data sets, set field by field.
-ghost use Rattle.std.specs.Prelude.{◌≡◌, length, slice_set};
+ghost use Rattle.std.specs.Prelude.{◌≡◌, ◌≤◌, IfNone, IfSome, length, slice_set};
 ghost use Rattle.std.specs.Bool.{OnTrue, OnFalse};
 ghost use Rattle.dataset_meta.specs.Rows.{FitsAt};
 ghost use Rattle.row_words.specs.Belonging.{Belongs, row_in};
-ghost use Rattle.row_words.specs.Setting.{with_status, with_value};
+ghost use Rattle.row_words.specs.Setting.{HasStatus, HasValue, with_status, with_value};
 ghost use Rattle.row_words.specs.Words.{scalar_in};
 ghost use Rattle.writer_group.specs.Standing.{AreRowsOf};
-ghost use Rattle.device_sides.specs.Sides.{HasRowSet, HasRowStatus, HasWordSet, IsMisfit, IsScalarAt, IsSetAgain, IsStatusMisfit, IsWordMisfit, MayHaveStatus, MayHaveWord};
+ghost use Rattle.device_sides.specs.Sides.{HasNoField, HasNoScalar, HasRowSet, HasRowStatus, HasWordSet, IsMisfit, IsScalarAt, IsSetAgain, IsStatusMisfit, IsWordMisfit, MayHaveStatus, MayHaveWord, RowIs};
 
 use crate::words::{has_field_at, is_scalar_at, is_word_of};
 use dataset_meta::Meta;
+use row_words::Row;
 use ua_values::{Kind, Value};
 use writer_group::Sampled;
 
@@ -73,6 +74,66 @@ pub fn set_status_in(metas: &[Meta], rows: &mut [Sampled], set: u8, field: u8, s
         return false;
     }
     set_status_row(&metas[index], &mut rows[index], field, status)
+}
+
+/// The value and the status of a field of the row of the data set with this index.
+pub fn field_in(metas: &[Meta], rows: &[Sampled], set: u8, field: u8) -> Option<(Value, u32)>
+    requires rows { AreRowsOf metas.now rows.now }
+    requires count { length rows.now ≡ length metas.now }
+    ensures value { IfSome result (λ x.
+        RowIs set (λ row. HasValue row field x.0) metas.now rows.now) }
+    ensures status { IfSome result (λ x.
+        RowIs set (λ row. HasStatus row field x.1) metas.now rows.now) }
+    ensures none { IfNone result (HasNoField metas.now set field) }
+{
+    let index = usize::from(set);
+    if index >= metas.len() {
+        return None;
+    }
+    field_of(&metas[index], &rows[index].row, field)
+}
+
+/// The word of a scalar field of this kind of the row of the data set with this index.
+pub fn word_in(metas: &[Meta], rows: &[Sampled], set: u8, field: u8, kind: Kind) -> Option<u64>
+    requires rows { AreRowsOf metas.now rows.now }
+    requires count { length rows.now ≡ length metas.now }
+    ensures word { IfSome result (λ word.
+        RowIs set (λ row. HasValue row field (scalar_in kind word)) metas.now rows.now) }
+    ensures none { IfNone result (HasNoScalar metas.now set field kind) }
+{
+    let index = usize::from(set);
+    if index >= metas.len() {
+        return None;
+    }
+    word_of(&metas[index], &rows[index].row, field, kind)
+}
+
+/// The value and the status of a field of the row, if the field is there.
+fn field_of(meta: &Meta, row: &Row, field: u8) -> Option<(Value, u32)>
+    requires { Belongs meta.now row.now.words }
+    ensures value { IfSome result (λ x.
+        HasValue (row_in meta.now.fields row.now.words) field x.0) }
+    ensures status { IfSome result (λ x.
+        HasStatus (row_in meta.now.fields row.now.words) field x.1) }
+    ensures none { IfNone result (length meta.now.fields ≤ field) }
+{
+    if !has_field_at(meta, field) {
+        return None;
+    }
+    Some((row.field(meta, field), row.status(meta, field)))
+}
+
+/// The word of a field of the row, if the field is there and of this kind, which is a scalar's.
+fn word_of(meta: &Meta, row: &Row, field: u8, kind: Kind) -> Option<u64>
+    requires { Belongs meta.now row.now.words }
+    ensures word { IfSome result (λ word.
+        HasValue (row_in meta.now.fields row.now.words) field (scalar_in kind word)) }
+    ensures none { IfNone result (¬ IsScalarAt meta.now field kind) }
+{
+    if !is_scalar_at(meta, field, kind) {
+        return None;
+    }
+    Some(row.word(meta, field))
 }
 
 /// Sets a field of the row, and counts it.

@@ -6,7 +6,8 @@ ghost use Rattle.ps_config.specs.declared.parts.Config.{Config as ConfigValue};
 ghost use Rattle.writer_group.specs.Parts.{group_at};
 ghost use Rattle.writer_group.specs.Standing.{AreRowsOf, IsGood, IsReserved, KeepsTo, TellsDue, TellsMoment, index_of, writer_count};
 ghost use Rattle.device_sides.specs.Coming.{AreRefreshed, all_writers};
-ghost use Rattle.device_sides.specs.Sides.{HasComeOn, HasNumbered, HasSwitched, HasTurned, HasWriter, IsOpeningSide, IsSide, MayNotTurn, numbered, sender_for};
+ghost use Rattle.device_sides.specs.Due.{HasTurnDue, SitsOut, TellsFirst};
+ghost use Rattle.device_sides.specs.Sides.{HasComeOn, HasNumbered, HasSwitched, HasTurned, HasWriter, IsOpeningSide, IsSide, MayNotTurn, MayTurn, numbered, sender_for};
 
 use message_guard::Sender;
 use ps_config::{Config, GroupPart};
@@ -97,6 +98,55 @@ impl Side {
         ensures { result ≡ (group_at config.now self.now.index).keygroup }
     {
         part_of(config, self.index).keygroup
+    }
+
+    /// Whether the group may have a turn with these rows, where these are the senders of the configuration's key groups
+    /// (`Group::may_tick`).
+    pub fn may_turn(&self, config: &Config, rows: &[Sampled], senders: &[Sender]) -> bool
+        requires good { IsGood config.now }
+        requires side { IsSide config.now self.now }
+        requires rows { AreRowsOf config.now.dataset rows.now }
+        requires senders { All IsSender senders.now }
+        ensures may { OnTrue result (MayTurn config.now rows.now
+            (sender_for config.now senders.now self.now.index) self.now) }
+        ensures not { OnFalse result (MayNotTurn config.now rows.now
+            (sender_for config.now senders.now self.now.index) self.now) }
+    {
+        match self.keygroup(config) {
+            None => self.group.may_tick(config, rows, &self.on, None),
+            Some(keygroup) => {
+                let k = usize::from(keygroup);
+                if k >= senders.len() {
+                    return false;
+                }
+                self.group
+                    .may_tick(config, rows, &self.on, Some(&senders[k]))
+            }
+        }
+    }
+
+    /// The first moment from `now` on, in milliseconds, at which the group is due. None where it may have no turn.
+    pub fn next_due(
+        &self,
+        config: &Config,
+        now: u64,
+        rows: &[Sampled],
+        senders: &[Sender],
+    ) -> Option<u64>
+        requires good { IsGood config.now }
+        requires side { IsSide config.now self.now }
+        requires rows { AreRowsOf config.now.dataset rows.now }
+        requires senders { All IsSender senders.now }
+        ensures { TellsFirst now (λ t. SitsOut config.now rows.now senders.now t self.now)
+            (λ t. HasTurnDue config.now rows.now senders.now t self.now) result }
+    {
+        if !self.may_turn(config, rows, senders) {
+            return None;
+        }
+        match self.group.due_from() {
+            None => None,
+            Some(moment) => Some(moment.max(now)),
+        }
     }
 
     /// A turn at this moment with these rows of the configuration's data sets, if the group may have one (`Group::may_tick`): its

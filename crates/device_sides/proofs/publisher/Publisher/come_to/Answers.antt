@@ -5,8 +5,9 @@ use Rattle.std.specs.Vec.{with_items}
 use Rattle.std.proofs.lemmas.List.{with_items_is}
 use Rattle.message_guard.specs.Senders.{IsSender, SenderState}
 use Rattle.device_sides.specs.Coming.{Comes, IsRefreshedFor, turned_to}
-use Rattle.device_sides.specs.Sides.{IsSide}
+use Rattle.device_sides.specs.Sides.{HasRing, IsSide}
 use Rattle.device_sides.specs.declared.side.Side.{Side}
+use Rattle.device_sides.proofs.Rings.{rings-turned}
 use Rattle.device_sides.proofs.publisher.Publisher.come_to.Goals as goal
 use Rattle.device_sides.proofs.publisher.Publisher.come_to.Goals.{After-turn_senders}
 
@@ -35,6 +36,9 @@ turn_due-requires-clause-publisher c =
       rows_count = c.requires.rows_count;
       senders_are = subst (λ (l : List SenderState). All IsSender l) (sym senders) c.turn_senders.ensures.senders;
       senders_count = ap (λ (l : List SenderState). length l) senders ∙ c.turn_senders.auto.senders ∙ ap (λ (l : List SenderState). length l) c.deref_mut-2.ensures.value ∙ c.requires.senders_count;
+      rings_are = subst (λ (l : List SenderState). AllZip HasRing l self.rings.items)
+          (sym (senders ∙ c.turn_senders.ensures.state ∙ ap (λ (l : List SenderState). turned_to c.args.now l) c.deref_mut-2.ensures.value))
+          (rings-turned c.args.now self.senders.items self.rings.items c.requires.rings_are);
       sides_are = subst (λ (l : List Side). All (IsSide self.config) l) (sym sides) c.turn_senders.ensures.sides;
       reserved = c.requires.reserved;
       made_is = c.requires.made_is;

@@ -14,6 +14,7 @@ use Rattle.device_sides.specs.Sides.{IsNoLess, IsNoLower, IsResumed, IsSide}
 use Rattle.device_sides.specs.declared.side.Side.{Side}
 use Rattle.device_sides.proofs.Places.{holds-at, put-at}
 use Rattle.device_sides.proofs.Refreshing.{refreshed-told}
+use Rattle.device_sides.proofs.Rings.{rings-count, rings-set}
 use Rattle.device_sides.proofs.publisher.Publisher.go_on.Goals as goal
 use Rattle.device_sides.proofs.publisher.Publisher.go_on.Goals.{After-refresh_with}
 
@@ -21,6 +22,14 @@ sides-kept : (c : After-refresh_with) → (with_items c.args.self.now.sides c.re
 sides-kept c =
     with_items_is c.args.self.now.sides c.refresh_with.new.sides
     (omega (arith, c.refresh_with.auto.sides, c.args.self.now.sides.ok.0, ap (λ (l : List Side). length l) c.deref_mut.ensures.value))
+
+pub index_mut-requires-2 : goal.index_mut-requires-2
+index_mut-requires-2 c =
+    let self = c.args.self.now in
+    omega (arith, c.if-index-len.false, c.len.ensures, self.senders.ok.0, self.rings.ok.0, rings-count self.senders.items self.rings.items c.requires.rings_are)
+
+pub refresh_with-requires-clause-sides : goal.refresh_with-requires-clause-sides
+refresh_with-requires-clause-sides c = subst (λ (l : List Side). All (IsSide c.args.self.now.config) l) (sym c.deref_mut.ensures.value) c.requires.sides_are
 
 pub returns-then-index-len-clause-refused : goal.returns-then-index-len-clause-refused
 returns-then-index-len-clause-refused c = λ within there. absurd (omega (arith, within, c.if-index-len.true, c.len.ensures, c.args.self.now.senders.ok.0, c.from-index.ensures))
@@ -100,6 +109,8 @@ returns-clause-publisher c =
       rows_count = r.rows_count;
       senders_are = All-set IsSender c.args.self.now.senders.items c.from-index.result c.sender_with-sender.result c.sender_with-sender.ensures.sender r.senders_are;
       senders_count = length-set c.args.self.now.senders.items c.from-index.result c.sender_with-sender.result ∙ r.senders_count;
+      rings_are = rings-set c.args.self.now.senders.items c.args.self.now.rings.items c.from-index.result c.sender_with-sender.result c.copy_of-copy.result
+          (c.copy_of-copy.ensures ∙ sym c.sender_with-sender.ensures.resumed.sets_are) r.rings_are;
       sides_are = subst (λ (l : List Side). All (IsSide c.args.self.now.config) l) (sym (sides-kept (goal.at.returns-clause-publisher c).After-refresh_with)) c.refresh_with.ensures.sides;
       reserved = r.reserved;
       made_is = r.made_is;

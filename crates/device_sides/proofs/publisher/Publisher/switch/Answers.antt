@@ -11,6 +11,7 @@ returns-clause-publisher c =
       rows_count = r.rows_count;
       senders_are = r.senders_are;
       senders_count = r.senders_count;
+      rings_are = r.rings_are;
       sides_are = All-set (IsSide c.args.self.now.config) c.args.self.now.sides.items c.from-index.result c.switch.new.self c.switch.ensures.side r.sides_are;
       reserved = r.reserved;
       made_is = r.made_is;
