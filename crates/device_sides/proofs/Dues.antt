@@ -1,7 +1,6 @@
 -- The first of many moments, and the moments of groups.
-use Rattle.std.proofs.Common.{◌≡◌, ℕ, ◌+◌, ◌-◌, ◌^◌, ◌<◌, ◌≤◌, ◌⊎◌, inl, inr, Bool, true, false, List, get_or, length, nat_le, refl, sym, subst, arith, ◌∙◌}
-use Rattle.std.specs.Prelude.{All, Option, Some, None, min}
-use Rattle.std.specs.List.{AllWithin, Any}
+use Rattle.std.proofs.Common.{◌≡◌, ℕ, ◌+◌, ◌-◌, ◌^◌, ◌<◌, ◌≤◌, ◌⊎◌, inl, inr, true, false, get_or, nat_le, sym, subst, arith, ◌∙◌}
+use Rattle.std.specs.Prelude.{Option, Some, None, min}
 use Rattle.std.proofs.lemmas.Bool.{cases_lt}
 use Rattle.std.proofs.lemmas.Bool.Decides.{leb_tells}
 use Rattle.ps_config.specs.declared.parts.Config.{Config}
@@ -9,7 +8,8 @@ use Rattle.ps_config.specs.declared.parts.GroupPart.{GroupPart}
 use Rattle.writer_group.specs.Parts.{no_group}
 use Rattle.writer_group.specs.Standing.{IsGood, IsMadeFor, IsNeverDue, TellsDue, TellsDueFrom, index_of}
 use Rattle.writer_group.specs.Turns.{last_moment}
-use Rattle.device_sides.specs.Due.{IsFirst, IsNever, TellsFirst, earlier}
+use Rattle.reader_group.specs.declared.group.ReaderGroup.{ReaderGroup}
+use Rattle.device_sides.specs.Due.{IsFirst, IsInTime, TellsFirst, earlier}
 use Rattle.device_sides.specs.Sides.{IsSide}
 use Rattle.device_sides.specs.declared.side.Side.{Side}
 
@@ -100,3 +100,19 @@ due-never config side t good is never low =
     λ any part metas past made stands.
     let past_all = never any part metas past made stands in
     reached-not part.interval (last_moment past) t (some-interval config any part side good is made) (omega (arith, low, past_all))
+
+-- ---- readers
+
+pub not-come : (moment t : ℕ) → t < moment → nat_le moment t ≡ false
+not-come moment t early = elim (leb_tells moment t) [
+  | inl met ↦ let come = met.1 in absurd (omega (arith, early, come))
+  | inr other ↦ other.0
+]
+
+-- one reader more
+pub in-time-more : (t k : ℕ) (group : ReaderGroup) → ((reader : ℕ) → reader < k → IsInTime t reader group) → IsInTime t k group → (reader : ℕ) → reader < k + 1 → IsInTime t reader group
+in-time-more t k group far one reader low = by_case (cases_lt reader k)
+  where
+    by_case : (reader < k) ⊎ (k ≤ reader) → IsInTime t reader group
+    by_case (inl below) = far reader below
+    by_case (inr last) = let same : k ≡ reader = omega (arith, low, last) in subst (λ (r : ℕ). IsInTime t r group) same one

@@ -2,13 +2,12 @@
 use Rattle.std.proofs.Common.{◌≡◌, ℕ, zero, suc, ◌<◌, Bool, true, false, List, [], ◌∷◌, length, get_or, set, nat_lt, refl, sym, ap, subst, arith, ◌∙◌}
 use Rattle.std.specs.Prelude.{All, Option, Some, None, if◌then◌else◌}
 use Rattle.std.specs.List.{AllZip}
-use Rattle.group_keys.specs.Ring.{key_sets}
 use Rattle.group_keys.specs.KeySets.{current}
 use Rattle.group_keys.specs.declared.key_set.KeySet.{KeySet}
 use Rattle.group_keys.specs.declared.ring.Ring.{Ring}
 use Rattle.message_guard.specs.declared.mode.Mode.{Mode}
 use Rattle.message_guard.specs.Protection.{keys_in}
-use Rattle.message_guard.specs.Senders.{IsSender, SenderState, renewed, turned, turned_by}
+use Rattle.message_guard.specs.Senders.{IsSender, SenderState, renewed, turned_by}
 use Rattle.ps_config.specs.declared.parts.Config.{Config}
 use Rattle.ps_config.specs.declared.parts.KeyGroupPart.{KeyGroupPart}
 use Rattle.ps_config.specs.Headers.{mode_of}

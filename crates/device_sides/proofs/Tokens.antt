@@ -1,22 +1,22 @@
 -- When a sender has a new token: from the moment of the first key set with a higher one.
-use Rattle.std.proofs.Common.{◌≡◌, ◌≢◌, ℕ, ◌<◌, ◌≤◌, ◌⊎◌, inl, inr, Bool, true, false, List, map, get_or, length, nat_le, nat_lt, Bor, leb-true, refl, sym, ap, subst, arith, ◌∙◌}
+use Rattle.std.proofs.Common.{◌≡◌, ◌≢◌, ℕ, ◌<◌, ◌≤◌, ◌⊎◌, inl, inr, Bool, true, false, List, map, get_or, length, nat_le, nat_lt, Bor, leb-true, refl, sym, ap, arith, ◌∙◌}
 use Rattle.std.specs.Prelude.{◌==◌, find, Option, Some, None, if◌then◌else◌}
 use Rattle.std.specs.Option.{option_copied}
 use Rattle.std.specs.List.{IsAmong, position_or_len}
 use Rattle.std.specs.List.Sorted.{IsStrictlyIncreasing}
-use Rattle.std.proofs.lemmas.Bool.{cases_lt, false≢true}
+use Rattle.std.proofs.lemmas.Bool.{cases_lt}
 use Rattle.std.proofs.lemmas.Bool.Decides.{eqb_tells, nat_tests}
 use Rattle.std.proofs.lemmas.List.{get_or-map, length-map}
 use Rattle.std.proofs.lemmas.List.Folds.{find_at}
 use Rattle.std.proofs.lemmas.List.Kept.{AllPairs-from_increasing}
 use Rattle.std.proofs.lemmas.List.Sums.{fails_before_first}
 use Rattle.std.proofs.lemmas.Option.{none-some, same_Some, slice_get_cases}
-use Rattle.group_keys.specs.KeySets.{Rises, current, moments, tokens}
+use Rattle.group_keys.specs.KeySets.{Rises, current, moments}
 use Rattle.group_keys.specs.declared.key_set.KeySet.{KeySet}
 use Rattle.group_keys.specs.Faults.{IsAccepted}
 use Rattle.group_keys.proofs.Finding.{found_at, last_found_latest, last_found_listed, last_found_passes, some_last}
 use Rattle.message_guard.specs.Protection.{keys_in}
-use Rattle.message_guard.specs.Senders.{SenderState, turned, turned_by}
+use Rattle.message_guard.specs.Senders.{SenderState, turned_by}
 use Rattle.device_sides.specs.Coming.{HasNewToken}
 use Rattle.device_sides.specs.Due.{KeepsToken, first_above}
 

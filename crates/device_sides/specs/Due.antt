@@ -1,11 +1,17 @@
--- The next moment at which a publisher has something to do.
-use Rattle.std.specs.Prelude.{ℕ, ◌^◌, ◌<◌, ◌≤◌, ◌⊎◌, Bool, true, false, List, length, find, min, nat_lt, All, Option, Some, None}
+-- The next moment at which a publisher has something to do, and that at which a reader times out.
+use Rattle.std.specs.Prelude.{◌≡◌, ℕ, ◌^◌, ◌<◌, ◌≤◌, ◌⊎◌, Bool, true, false, List, length, find, min, nat_lt, All, Option, Some, None}
 use Rattle.std.specs.List.{Any, HoldsAt}
 use Rattle.group_keys.specs.declared.key_set.KeySet.{KeySet}
 use Rattle.message_guard.specs.Senders.{SenderState}
 use Rattle.ps_config.specs.declared.parts.Config.{Config}
+use Rattle.receive_timer.specs.Told.{is_due}
+use Rattle.reader_group.specs.Groups.{Stands, reader_count}
+use Rattle.reader_group.specs.Members.{seat_at}
+use Rattle.reader_group.specs.Plain.{PlainGroup, Setting, member_at}
+use Rattle.reader_group.specs.declared.group.ReaderGroup.{ReaderGroup}
 use Rattle.writer_group.specs.Standing.{TellsDue}
 use Rattle.writer_group.specs.declared.sampled.Sampled.{Sampled}
+use Rattle.device_sides.specs.declared.listening.Listening.{Listening}
 use Rattle.device_sides.specs.declared.publisher.Publisher.{Publisher}
 use Rattle.device_sides.specs.declared.side.Side.{Side}
 use Rattle.device_sides.specs.Coming.{HasNewToken}
@@ -79,3 +85,27 @@ TellsSpent publisher false side = MayTurn publisher.config publisher.rows.items 
 pub record IsSpentAt (group : ℕ) (publisher : Publisher) (spent : Bool) : Type 0 where
   pub within : group < length publisher.sides.items
   pub is : HoldsAt (TellsSpent publisher spent) publisher.sides.items group
+
+-- ---- a subscriber's timeouts
+
+-- the timer of the reader with this index hasn't run out at the moment
+abbrev pub IsInTime : ℕ → ℕ → ReaderGroup → Type 0
+IsInTime t reader group =
+    (setting : Setting) (plain : PlainGroup) → Stands setting plain group
+    → is_due (seat_at setting.seats reader).part.timeout (member_at plain.members reader).told t ≡ false
+
+-- it has
+abbrev pub TimesOut : ℕ → ℕ → ReaderGroup → Type 0
+TimesOut t reader group =
+    (setting : Setting) (plain : PlainGroup) → Stands setting plain group
+    → is_due (seat_at setting.seats reader).part.timeout (member_at plain.members reader).told t ≡ true
+
+-- the timer of no reader of the read group has
+abbrev pub AreInTime : ℕ → Listening → Type 0
+AreInTime t listening = (reader : ℕ) → reader < reader_count listening.group → IsInTime t reader listening.group
+
+-- that of some reader has
+pub record HasTimeout (t : ℕ) (listening : Listening) : Type 0 where
+  pub reader : ℕ
+  pub within : reader < reader_count listening.group
+  pub late : TimesOut t reader listening.group

@@ -1,5 +1,5 @@
 -- What calls tell of a subscriber's readers.
-use Rattle.std.specs.Prelude.{◌≡◌, ℕ, ◌<◌, ◌≤◌, Bool, true, false, List, length, slice_set, None, Some}
+use Rattle.std.specs.Prelude.{◌≡◌, ℕ, ◌-◌, ◌<◌, ◌≤◌, Bool, true, false, List, length, slice_set, Option, None, Some}
 use Rattle.std.specs.List.{AllZip, HoldsAt}
 use Rattle.ua_values.specs.declared.kind.Kind.{Kind}
 use Rattle.ua_values.specs.declared.value.Value.{Value}
@@ -13,15 +13,18 @@ use Rattle.dataset_reader.specs.Reader.{kept_by}
 use Rattle.message_guard.specs.declared.keys.TokenKeys.{TokenKeys}
 use Rattle.ps_config.specs.declared.parts.Config.{Config}
 use Rattle.reader_group.specs.declared.group.ReaderGroup.{ReaderGroup}
+use Rattle.reader_group.specs.declared.notice.Notice.{Notice}
+use Rattle.reader_group.specs.declared.refused.Refused.{Refused}
 use Rattle.reader_group.specs.Groups as reads
 use Rattle.reader_group.specs.Members.{seat_at}
+use Rattle.reader_group.specs.Notices.{notice_at}
 use Rattle.reader_group.specs.Plain.{Expired, Setting, Stopped}
 use Rattle.reader_group.specs.Settings.{setting_of}
 use Rattle.device_sides.specs.declared.asked.NoValue.{NoValue}
 use Rattle.device_sides.specs.declared.asked.NoValue.TheVariants.{Misfit, NoField, NoRow}
 use Rattle.device_sides.specs.declared.listening.Listening.{Listening}
 use Rattle.device_sides.specs.declared.subscriber.Subscriber.{Subscriber}
-use Rattle.device_sides.specs.Sides.{IsScalarAt}
+use Rattle.device_sides.specs.Sides.{IsScalarAt, KeepsNotes}
 
 -- the meta of the data set of the reader with this index
 abbrev pub meta_for : Config → Listening → ℕ → MetaData
@@ -84,6 +87,58 @@ HasNoMisfit meta kept = ⊥
 abbrev pub HoldsNone : MetaData → Kept → Type 0
 HoldsNone meta kept = kept.row ≡ None
 
+-- ---- how old a row is
+
+-- the row of the reader with this index in the read group with this index was confirmed then, or no row is held
+pub record IsConfirmedFor (group reader : ℕ) (confirmed : Option ℕ) (subscriber : Subscriber) : Type 0 where
+  pub within : group < length subscriber.groups.items
+  pub index : HoldsAt (λ listening. reader < reads.reader_count listening.group) subscriber.groups.items group
+  pub is : HoldsAt (λ listening. reads.IsConfirmedAt listening.group reader confirmed) subscriber.groups.items group
+
+-- where there is such a reader, no row of it is confirmed
+abbrev pub IsUnconfirmed : ℕ → ℕ → Subscriber → Type 0
+IsUnconfirmed group reader subscriber =
+    group < length subscriber.groups.items
+    → HoldsAt (λ listening. reader < reads.reader_count listening.group → reads.IsConfirmedAt listening.group reader None) subscriber.groups.items group
+
+-- so many milliseconds have passed since the row was confirmed; none where that was later
+pub record HasAge (group reader now age : ℕ) (subscriber : Subscriber) : Type 0 where
+  pub moment : ℕ
+  pub confirmed : IsConfirmedFor group reader (Some moment) subscriber
+  pub age_is : age ≡ now - moment
+
+-- the row is fresh at this moment: it is held, and no older than the bound
+pub record IsFreshFor (group reader now bound : ℕ) (subscriber : Subscriber) : Type 0 where
+  pub within : group < length subscriber.groups.items
+  pub index : HoldsAt (λ listening. reader < reads.reader_count listening.group) subscriber.groups.items group
+  pub is : HoldsAt (λ listening. reads.IsFreshAt listening.group reader now bound true) subscriber.groups.items group
+
+-- where there is such a reader, its row isn't
+abbrev pub IsStale : ℕ → ℕ → ℕ → ℕ → Subscriber → Type 0
+IsStale group reader now bound subscriber =
+    group < length subscriber.groups.items
+    → HoldsAt (λ listening. reader < reads.reader_count listening.group → reads.IsFreshAt listening.group reader now bound false) subscriber.groups.items group
+
+-- ---- what is refused, and what is noted
+
+-- this is what the read group with this index refused
+pub record HasRefused (group : ℕ) (subscriber : Subscriber) (refused : Refused) : Type 0 where
+  pub within : group < length subscriber.groups.items
+  pub is : HoldsAt (λ listening. refused ≡ reads.refused_of listening.group) subscriber.groups.items group
+
+-- this is noted of the reader with this index in the read group with this index
+pub record IsNoticeFor (group reader : ℕ) (subscriber : Subscriber) (notice : Notice) : Type 0 where
+  pub within : group < length subscriber.groups.items
+  pub index : HoldsAt (λ listening. reader < reads.reader_count listening.group) subscriber.groups.items group
+  pub is : HoldsAt (λ listening. notice ≡ notice_at (reads.notices_of listening.group) reader) subscriber.groups.items group
+
+-- the read group with this index takes datagrams of this NetworkMessageNumber alone from now on, of any where it is 0, and nothing else changed
+pub record HasNumber (group number : ℕ) (old new : Subscriber) : Type 0 where
+  pub within : group < length old.groups.items
+  pub is : HoldsAt (λ was. HoldsAt (λ is. is ≡ record was { number = number }) new.groups.items group) old.groups.items group
+  pub others : HoldsAt (λ is. new.groups.items ≡ slice_set old.groups.items group is) new.groups.items group
+  pub config : new.config ≡ old.config
+
 -- ---- why nothing is told
 
 -- where the read group has a reader with this index, its data set has no such field
@@ -110,8 +165,10 @@ IsUntoldAt misfit group reader field subscriber Misfit = Keeps group reader misf
 -- the timers of a read group were looked at at this moment, and which of its readers are on stays
 pub record HasExpired (now : ℕ) (old new : Listening) : Type 0 where
   pub group : (setting : Setting) → reads.TakesOn setting (Expired now) old.group new.group
+  pub notes : KeepsNotes old new
   pub on : new.on ≡ old.on
   pub index : new.index ≡ old.index
+  pub number : new.number ≡ old.number
 
 -- the same of each read group, and nothing else changed
 pub record HaveExpired (now : ℕ) (old new : Subscriber) : Type 0 where
@@ -123,8 +180,10 @@ pub record HaveExpired (now : ℕ) (old new : Subscriber) : Type 0 where
 -- a read group goes on with these keys, and which of its readers are on stays
 pub record GoesOnWith (keys : List TokenKeys) (old new : Listening) : Type 0 where
   pub group : reads.GoesOnWith keys old.group new.group
+  pub notes : KeepsNotes old new
   pub on : new.on ≡ old.on
   pub index : new.index ≡ old.index
+  pub number : new.number ≡ old.number
 
 -- the same of the read group with this index, and nothing else changed
 pub record HasKeysRenewed (group : ℕ) (keys : List TokenKeys) (old new : Subscriber) : Type 0 where
@@ -144,7 +203,9 @@ HasGoneOff reader false old new = (setting : Setting) → reads.TakesOn setting 
 pub record HasSwitchedReader (reader : ℕ) (on : Bool) (old new : Listening) : Type 0 where
   pub on_is : new.on.items ≡ slice_set old.on.items reader on
   pub group : HasGoneOff reader on old.group new.group
+  pub notes : KeepsNotes old new
   pub index : new.index ≡ old.index
+  pub number : new.number ≡ old.number
 
 -- the same of a reader of the read group with this index, and nothing else changed
 pub record HasReaderSwitched (group reader : ℕ) (on : Bool) (old new : Subscriber) : Type 0 where

@@ -22,7 +22,9 @@ use Rattle.ps_config.specs.Configs.{is_long}
 use Rattle.ps_config.specs.Headers.{mode_of}
 use Rattle.ps_config.specs.Rings.{key_set}
 use Rattle.reader_group.specs.Groups as reads
+use Rattle.reader_group.specs.Filter.{takes_number}
 use Rattle.reader_group.specs.Plain.{Got}
+use Rattle.reader_group.specs.Refused.{none_refused, refused_on}
 use Rattle.reader_group.specs.declared.refusal.Refusal.{Refusal}
 use Rattle.reader_group.specs.declared.refusal.Taken.{Taken}
 use Rattle.writer_group.specs.declared.datagrams.Datagrams.{Datagrams}
@@ -340,6 +342,9 @@ pub record IsOpeningListening (config : Config) (index : ℕ) (listening : Liste
   pub index_is : listening.index ≡ index
   pub opening : reads.IsOpening config index listening.group
   pub on : listening.on.items ≡ replicate (reads.reader_count listening.group) true
+  pub any_number : listening.number ≡ 0
+  pub none_refused : reads.refused_of listening.group ≡ none_refused
+  pub none_noted : reads.notices_of listening.group ≡ reads.no_notices
 
 -- one of each read group of the configuration, in its order
 abbrev pub AreOpeningListenings : Config → List Listening → Type 0
@@ -350,14 +355,36 @@ pub record IsSubscriber (subscriber : Subscriber) : Type 0 where
   pub good : IsGood subscriber.config
   pub groups_are : All (IsListening subscriber.config) subscriber.groups.items
 
--- a datagram came to the read group at this moment: its group stepped as by the plain reading, and so was what is left of the bytes; which of its readers are on, and
--- the others, stayed
+-- the read group takes datagrams of this one's NetworkMessageNumber
+abbrev pub TakesNumber : ℕ → List ℕ → Subscriber → Type 0
+TakesNumber group datagram subscriber = HoldsAt (λ listening. takes_number listening.number datagram ≡ true) subscriber.groups.items group
+
+-- it takes those of another alone
+abbrev pub PassesNumber : ℕ → List ℕ → Subscriber → Type 0
+PassesNumber group datagram subscriber = HoldsAt (λ listening. takes_number listening.number datagram ≡ false) subscriber.groups.items group
+
+-- what the read group refused, and what it noted of its readers, stays
+pub record KeepsNotes (old new : Listening) : Type 0 where
+  pub refused : reads.refused_of new.group ≡ reads.refused_of old.group
+  pub notices : reads.notices_of new.group ≡ reads.notices_of old.group
+
+-- what the read group refused is kept: the last refusal with its sender, and how many there were
+abbrev pub NotesRefusal : Result Taken Refusal → List ℕ → Listening → Listening → Type 0
+NotesRefusal answer datagram old new = reads.refused_of new.group ≡ refused_on (reads.refused_of old.group) answer datagram
+
+-- a datagram came to the read group at this moment. Where the group takes its number, the group stepped as by the plain reading, and so were its answer, what is noted of
+-- its readers and what is left of the bytes; where it doesn't, all that the plain reading has stayed, and so did the bytes. Which of its readers are on, and the others, stayed.
 pub record HasListened (group now : ℕ) (datagram left : List ℕ) (old new : Subscriber) (answer : Result Taken Refusal) : Type 0 where
   pub within : group < length old.groups.items
-  pub step : HoldsAt (λ was. HoldsAt (λ is. reads.StepsBy old.config (Got now was.on.items datagram) was.group is.group) new.groups.items group)
+  pub step : TakesNumber group datagram old → HoldsAt (λ was. HoldsAt (λ is. reads.StepsBy old.config (Got now was.on.items datagram) was.group is.group) new.groups.items group)
       old.groups.items group
-  pub answer_is : HoldsAt (λ was. reads.IsAnswer old.config was.group now was.on.items datagram answer) old.groups.items group
-  pub bytes : HoldsAt (λ was. reads.AreLeft old.config was.group datagram left) old.groups.items group
+  pub answer_is : TakesNumber group datagram old → HoldsAt (λ was. reads.IsAnswer old.config was.group now was.on.items datagram answer) old.groups.items group
+  pub bytes : TakesNumber group datagram old → HoldsAt (λ was. reads.AreLeft old.config was.group datagram left) old.groups.items group
+  pub notices : TakesNumber group datagram old → HoldsAt (λ was. HoldsAt (λ is. reads.AreNoticed old.config was.group now was.on.items datagram is.group) new.groups.items group)
+      old.groups.items group
+  pub passed : PassesNumber group datagram old → HoldsAt (λ was. HoldsAt (λ is. reads.PassedDatagram was.group is.group datagram left answer) new.groups.items group)
+      old.groups.items group
+  pub refused : HoldsAt (λ was. HoldsAt (NotesRefusal answer datagram was) new.groups.items group) old.groups.items group
   pub rest : HoldsAt (λ was. HoldsAt (λ is. is ≡ record was { group = is.group }) new.groups.items group) old.groups.items group
   pub others : HoldsAt (λ is. new.groups.items ≡ slice_set old.groups.items group is) new.groups.items group
   pub config : new.config ≡ old.config

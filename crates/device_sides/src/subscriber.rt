@@ -1,6 +1,7 @@
 //! Subscribers.
-ghost use Rattle.std.specs.Prelude.{◌≡◌, ◌<◌, ◌≤◌, Ok, IfOk, IfErr, IfSome, IfNone, length, map};
+ghost use Rattle.std.specs.Prelude.{◌≡◌, ◌<◌, ◌≤◌, All, Ok, Some, IfOk, IfErr, IfSome, IfNone, length, map};
 ghost use Rattle.std.specs.Bool.{OnFalse, OnTrue};
+ghost use Rattle.std.specs.List.{Any};
 ghost use Rattle.group_keys.specs.Ring.{is_long, key_sets};
 ghost use Rattle.message_guard.specs.Protection.{keys_in};
 ghost use Rattle.reader_group.specs.Groups as reads;
@@ -8,10 +9,12 @@ ghost use Rattle.ps_config.specs.Reading.{configuration, IsEnd};
 ghost use Rattle.ps_config.specs.Sound.{IsSound};
 ghost use Rattle.writer_group.specs.Standing.{IsGood};
 ghost use Rattle.row_words.specs.Words.{scalar_in};
-ghost use Rattle.device_sides.specs.Readings.{HasFieldStatus, HasFieldValue, HasKeysRenewed, HasNoMisfit, HasReaderSwitched, HaveExpired, IsNoReader, IsOfKind, IsOfOtherKind, IsReaderAt, IsUntold, IsUntoldAt, Keeps, ReaderKeeps, meta_for};
+ghost use Rattle.device_sides.specs.Due.{AreInTime, HasTimeout, TellsFirst};
+ghost use Rattle.device_sides.specs.Readings.{HasAge, HasFieldStatus, HasFieldValue, HasKeysRenewed, HasNoMisfit, HasNumber, HasReaderSwitched, HasRefused, HaveExpired, IsConfirmedFor, IsFreshFor, IsNoReader, IsNoticeFor, IsOfKind, IsOfOtherKind, IsReaderAt, IsStale, IsUnconfirmed, IsUntold, IsUntoldAt, Keeps, ReaderKeeps, meta_for};
 ghost use Rattle.device_sides.specs.Sides.{AreOpeningListenings, FitsReadGroup, HasListened, IsListening, IsSubscriber, ReadsLongKeys, ReadsNoKeys};
 
 use crate::asked::NoValue;
+use crate::due::earlier;
 use crate::listening::Listening;
 use crate::making::{has_long_keys, keygroup_of, listenings_of};
 use crate::words::is_scalar_at;
@@ -19,7 +22,7 @@ use dataset_meta::Meta;
 use dataset_reader::Reader;
 use group_keys::Ring;
 use ps_config::{Config, ConfigEnd, read_config};
-use reader_group::{Refusal, Taken};
+use reader_group::{Notice, Refusal, Refused, Taken};
 use std::alloc::Global;
 use ua_values::{Kind, Value};
 
@@ -81,6 +84,20 @@ impl Subscriber {
         }
     }
 
+    /// The first moment from `now` on, in milliseconds, at which a reader times out, as long as no datagram comes. So a program may
+    /// sleep until then, or until a datagram comes, and call `expire`. None where none will.
+    pub fn due(&self, now: u64) -> Option<u64>
+        ensures { TellsFirst now (λ t. All (AreInTime t) self.now.groups.items)
+            (λ t. Any (HasTimeout t) self.now.groups.items) result }
+    {
+        let mut first = None;
+        for g in 0..self.groups.len() {
+            let due = self.groups[g].due(now);
+            first = earlier(first, due);
+        }
+        first
+    }
+
     /// The reader with this index in the read group with this index.
     pub fn reader(&self, group: u8, reader: u8) -> Option<&Reader>
         requires { IsSubscriber self.now }
@@ -126,6 +143,87 @@ impl Subscriber {
             return Err(NoValue::NoField);
         }
         word_in(&self.config, &self.groups[index], reader, field, kind)
+    }
+
+    /// The moment at which the row that a reader holds was last confirmed, in milliseconds (`ReaderGroup::confirmed`). None where it
+    /// holds no row, or where there is no such reader.
+    pub fn confirmed(&self, group: u8, reader: u8) -> Option<u64>
+        ensures moment { IfSome result (λ moment.
+            IsConfirmedFor group reader (Some moment) self.now) }
+        ensures none { IfNone result (IsUnconfirmed group reader self.now) }
+    {
+        let index = usize::from(group);
+        if index >= self.groups.len() {
+            return None;
+        }
+        self.groups[index].confirmed(reader)
+    }
+
+    /// How long ago, at `now`, the row that a reader holds was last confirmed, in milliseconds; 0 where that was later. None where it
+    /// holds no row, or where there is no such reader.
+    pub fn age(&self, group: u8, reader: u8, now: u64) -> Option<u64>
+        ensures age { IfSome result (λ age. HasAge group reader now age self.now) }
+        ensures none { IfNone result (IsUnconfirmed group reader self.now) }
+    {
+        match self.confirmed(group, reader) {
+            Some(moment) => Some(now.saturating_sub(moment)),
+            None => None,
+        }
+    }
+
+    /// Whether a reader holds a row that was confirmed at most so many milliseconds before `now`: what a machine may rest on, which a
+    /// timeout alone isn't, as delta frames and keep-alives behind a lost message begin it anew. False where there is no such reader.
+    pub fn is_fresh(&self, group: u8, reader: u8, now: u64, bound: u64) -> bool
+        ensures fresh { OnTrue result (IsFreshFor group reader now bound self.now) }
+        ensures stale { OnFalse result (IsStale group reader now bound self.now) }
+    {
+        let index = usize::from(group);
+        if index >= self.groups.len() {
+            return false;
+        }
+        self.groups[index].is_fresh(reader, now, bound)
+    }
+
+    /// What the read group with this index refused since it was opened (`ReaderGroup::refused`).
+    pub fn refused(&self, group: u8) -> Option<&Refused>
+        ensures refused { IfSome result (λ refused. HasRefused group self.now refused.now) }
+        ensures none { IfNone result (length self.now.groups.items ≤ group) }
+    {
+        let index = usize::from(group);
+        if index >= self.groups.len() {
+            return None;
+        }
+        Some(self.groups[index].group.refused())
+    }
+
+    /// What is noted of the parts for a reader (`ReaderGroup::notice`).
+    pub fn notice(&self, group: u8, reader: u8) -> Option<Notice>
+        ensures notice { IfSome result (IsNoticeFor group reader self.now) }
+        ensures none { IfNone result (IsNoReader group reader self.now) }
+    {
+        let index = usize::from(group);
+        if index >= self.groups.len() {
+            return None;
+        }
+        self.groups[index].notice(reader)
+    }
+
+    /// The read group with this index takes datagrams of this NetworkMessageNumber alone from now on (OPC 10000-14 6.3.1.4, of a
+    /// DataSetReader), of any where it is 0, as at first. Others are refused as `NotOurs`. False, and nothing changes, where there is
+    /// no such read group.
+    pub fn set_network_message_number(&mut self, group: u8, number: u16) -> bool
+        requires { IsSubscriber self.old }
+        ensures subscriber { IsSubscriber self.new }
+        ensures set { OnTrue result (HasNumber group number self.old self.new) }
+        ensures not { OnFalse result (self.new ≡ self.old) }
+        ensures absent { OnFalse result (length self.old.groups.items ≤ group) }
+    {
+        let index = usize::from(group);
+        if index >= self.groups.len() {
+            return false;
+        }
+        self.groups[index].set_number(&self.config, number);
+        true
     }
 
     /// Switches the reader with this index in the read group with this index on or off. One that is switched off holds no row, and is

@@ -1,8 +1,5 @@
-use Rattle.std.proofs.Common.{◌+◌, List, length, take, sym, subst, arith}
+use Rattle.std.proofs.Common.{◌+◌, take, sym, subst, arith}
 use Rattle.std.specs.List.{AllZip}
-use Rattle.std.proofs.lemmas.List.{take_all}
-use Rattle.group_keys.specs.declared.ring.Ring.{Ring}
-use Rattle.ps_config.specs.declared.parts.KeyGroupPart.{KeyGroupPart}
 use Rattle.writer_group.proofs.SetupLaws.{zip-more}
 use Rattle.device_sides.specs.Sides.{IsConfiguredRing}
 use Rattle.device_sides.proofs.making.rings_of.Goals as goal

@@ -1,4 +1,4 @@
-use Rattle.std.proofs.Common.{◌<◌, [], length, get_or, subst, sym, arith}
+use Rattle.std.proofs.Common.{[], get_or, subst, sym, arith}
 use Rattle.dataset_meta.specs.Metas.{MetaData}
 use Rattle.row_words.specs.Belonging.{Belongs}
 use Rattle.writer_group.specs.declared.sampled.Sampled.{Sampled}

@@ -1,7 +1,6 @@
 use Rattle.std.proofs.Common.{ℕ, Option, List, inl, inr, sym, subst}
 use Rattle.std.specs.Prelude.{All}
-use Rattle.std.specs.List.{AllZip, Any}
-use Rattle.group_keys.specs.declared.ring.Ring.{Ring}
+use Rattle.std.specs.List.{Any}
 use Rattle.message_guard.specs.Senders.{SenderState}
 use Rattle.writer_group.specs.declared.sampled.Sampled.{Sampled}
 use Rattle.device_sides.specs.Coming.{HasNewToken}

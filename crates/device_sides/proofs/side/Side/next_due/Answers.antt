@@ -1,4 +1,4 @@
-use Rattle.std.proofs.Common.{◌<◌, ◌≤◌, inl, arith}
+use Rattle.std.proofs.Common.{inl, arith}
 use Rattle.device_sides.proofs.Dues.{due-never, due-not, due-then}
 use Rattle.device_sides.proofs.side.Side.next_due.Goals as goal
 
