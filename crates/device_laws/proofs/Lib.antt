@@ -17,6 +17,7 @@ mod PlainReads
 mod Publishes
 mod PulledReads
 mod PulledTurns
+mod Reaching
 mod RingedReads
 mod Ringing
 mod Rows

@@ -63,6 +63,7 @@ keys-among r all own (reads.Came group now datagram answer) are keeps = tt
 keys-among r all own (reads.Expired now) are keeps = tt
 keys-among r all own (reads.Switched group reader on) are keeps = tt
 keys-among r all own (reads.Renewed group new) are keeps = λ e. subst (AreKeysAmong all) (sym (keeps e)) are
+keys-among r all own (reads.Only group number) are keeps = tt
 keys-among r all own reads.Refused are keeps = tt
 
 all-among : (r : ℕ) (all : List KeySet) (own : List TokenKeys) (steps : List SubscriberStep) → AreKeysAmong all own → AreOwnKeys steps r own → AllKeysAreAmong r all steps

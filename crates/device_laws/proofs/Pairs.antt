@@ -36,14 +36,15 @@ use Rattle.session_laws.specs.Plays.{ComesFromWriter, HoldsVersion, IsPlay, Play
 use Rattle.device_sides.specs.declared.listening.Listening.{Listening}
 use Rattle.device_sides.specs.declared.subscriber.Subscriber.{Subscriber}
 use Rattle.device_sides.specs.Readings.{IsReaderAt}
-use Rattle.device_sides.specs.Sides.{HasListened}
+use Rattle.device_sides.specs.Sides.{HasListened, TakesNumber}
 use Rattle.device_laws.specs.Devices.{ArePaired, ArePairedByOne, HasSentFew, HoldsNamed, IsCounted, member_in, play_of}
 use Rattle.device_laws.specs.Publishing.{HasOffered, PublisherLife, config_in}
-use Rattle.device_laws.specs.Subscribing.{AreOwnKeys, AreSubscriberSteps, Came, Expired, IsOpenSubscriber, IsSubscriberCall, IsTaken, Reading, Refused, Renewed, SubscriberCall, SubscriberLife, SubscriberStep, Switched, TakenAre, event_by, events, events_in, reading, readers_on, setting_in, some_if, subscriber_after, subscriber_in}
+use Rattle.device_laws.specs.Subscribing.{AreOwnKeys, AreSubscriberSteps, Came, Expired, IsOpenSubscriber, IsSubscriberCall, IsTaken, Only, Reading, Refused, Renewed, SubscriberCall, SubscriberLife, SubscriberStep, Switched, TakenAre, event_by, events, events_in, is_for, reading, readers_on, setting_in, some_if, subscriber_after, subscriber_in}
 use Rattle.device_laws.specs.Turning.{past_in}
 use Rattle.device_laws.proofs.WholeRows.{named-sent}
 use Rattle.device_laws.proofs.Heard.{keeps-member, plain-reading, stands-at, subscriber-is}
 use Rattle.device_laws.proofs.Offered.{offered-made}
+use Rattle.device_laws.proofs.Reaching.{Tells, reach}
 use Rattle.device_laws.proofs.Publishes.{is-past}
 
 -- ---- what the laws below say of a play
@@ -74,10 +75,11 @@ if-restarts true event list one all = one
 if-restarts false event list one all = all
 
 pub restarts-on : (call : SubscriberCall) (old : Subscriber) (r : ℕ) (list : List Event) → AreRestarts list → AreRestarts (cons_option (event_by call old r) list)
-restarts-on (Came group now datagram answer) old r list all = if-restarts (group == r) (befalls.Got now (readers_on old r) datagram) list all all
+restarts-on (Came group now datagram answer) old r list all = if-restarts (is_for old group r datagram) (befalls.Got now (readers_on old r) datagram) list all all
 restarts-on (Expired now) old r list all = all
 restarts-on (Switched group reader on) old r list all = if-restarts ((group == r) && not on) (befalls.Stopped reader Restarted) list (refl, all) all
 restarts-on (Renewed group keys) old r list all = all
+restarts-on (Only group number) old r list all = all
 restarts-on Refused old r list all = all
 
 pub are-restarts : (first : Subscriber) (r : ℕ) (steps : List SubscriberStep) → AreRestarts (events first steps r)
@@ -92,8 +94,8 @@ taken-with group now r datagram is taken P e hit has = subst (λ (a : Result Tak
 -- what a call answers to a datagram is what the reading has, with the keys that the group has then
 pub answer-told : (text : List ℕ) (first : Subscriber) (r : ℕ) → IsOpenSubscriber text first → r < length first.config.readgroup → (before : List SubscriberStep) → AreSubscriberSteps first before
     → (now : ℕ) (datagram left : List ℕ) (is : Result Taken Refusal) (new : Subscriber) → HasListened r now datagram left (subscriber_after first before) new is
-    → (on : List Bool) × (is ≡ answer (with_keys (setting_of first.config r) (reading first before r).keys) (reading first before r).value now on datagram)
-answer-told text first r opened low before are now datagram left is new has =
+    → TakesNumber r datagram (subscriber_after first before) → (on : List Bool) × (is ≡ answer (with_keys (setting_of first.config r) (reading first before r).keys) (reading first before r).value now on datagram)
+answer-told text first r opened low before are now datagram left is new has takes =
     let old = subscriber_after first before in
     let rd = reading first before r in
     let h = stands-at text first r before opened low are in
@@ -102,7 +104,7 @@ answer-told text first r opened low before are now datagram left is new has =
     let old_is = subscriber-is text first before opened are in
     let index : index_of l.group ≡ r =
     subst (λ (x : Listening). index_of x.group ≡ x.index) was_at (old_is.groups_are r l has.within).index ∙ h.index in
-    let raw : IsAnswer old.config l.group now l.on.items datagram is = subst (λ (x : Listening). IsAnswer old.config x.group now x.on.items datagram is) was_at (has.answer_is l) in (
+    let raw : IsAnswer old.config l.group now l.on.items datagram is = subst (λ (x : Listening). IsAnswer old.config x.group now x.on.items datagram is) was_at (has.answer_is takes l) in (
       l.on.items,
       subst (λ (c : Config). (keys : List TokenKeys) (value : PlainGroup) → Stands (with_keys (setting_of c r) keys) value l.group → is ≡ answer (with_keys (setting_of c r) keys) value now l.on.items datagram) h.config
           (subst (λ (k : ℕ). (keys : List TokenKeys) (value : PlainGroup) → Stands (with_keys (setting_of old.config k) keys) value l.group → is ≡ answer (with_keys (setting_of old.config k) keys) value now l.on.items datagram) index raw)
@@ -115,9 +117,9 @@ module _ (text : List ℕ) (first : Subscriber) (r : ℕ) (opened : IsOpenSubscr
 
   -- the call's answer is that of the plain reading
   answer-is : (before : List SubscriberStep) → AreSubscriberSteps first before → AreOwnKeys before r S.setup.keys → (now : ℕ) (datagram left : List ℕ) (is : Result Taken Refusal) (new : Subscriber)
-      → HasListened r now datagram left (subscriber_after first before) new is → (on : List Bool) × (is ≡ answer S (plain S (events first before r)) now on datagram)
-  answer-is before are own now datagram left is new has =
-      let told = answer-told text first r opened low before are now datagram left is new has in
+      → HasListened r now datagram left (subscriber_after first before) new is → TakesNumber r datagram (subscriber_after first before) → (on : List Bool) × (is ≡ answer S (plain S (events first before r)) now on datagram)
+  answer-is before are own now datagram left is new has takes =
+      let told = answer-told text first r opened low before are now datagram left is new has takes in
       (told.0, told.1 ∙ ap (λ (x : Reading). answer (with_keys S x.keys) x.value now told.0 datagram) (plain-reading first r before own))
 
   -- a datagram that the read group took
@@ -132,8 +134,8 @@ module _ (text : List ℕ) (first : Subscriber) (r : ℕ) (opened : IsOpenSubscr
       ok-taken : is ≡ answer_on S (plain S list) now on (Ok opens) → P datagram
       ok-taken so = taken-with group now r datagram is _ P so hit has
 
-  came-if : (list : List Event) (group now : ℕ) (datagram : List ℕ) (on : List Bool) (b : Bool) → ((b ≡ true) × (group ≡ r)) ⊎ ((b ≡ false) × (group ≢ r))
-      → (group ≡ r → (opens : Opened) → verdict S.group S.setup (accepted S list) datagram ≡ Ok opens → IsMade config pasts datagram) → CameAsMade S config pasts list
+  came-if : (list : List Event) (group now : ℕ) (datagram : List ℕ) (on : List Bool) (b : Bool) {Hit Miss : Type 0} → Tells b Hit Miss
+      → (Hit → (opens : Opened) → verdict S.group S.setup (accepted S list) datagram ≡ Ok opens → IsMade config pasts datagram) → CameAsMade S config pasts list
       → CameAsMade S config pasts (cons_option (some_if b (befalls.Got now on datagram)) list)
   came-if list group now datagram on true (inl hit) own all = (own hit.1, all)
   came-if list group now datagram on true (inr miss) own all = absurd (let e = miss.0 in cc)
@@ -148,14 +150,16 @@ module _ (text : List ℕ) (first : Subscriber) (r : ℕ) (opened : IsOpenSubscr
   came-on before are own (Came group now datagram is) new has taken all =
       let old = subscriber_after first before in
       let list = events first before r in
-      came-if list group now datagram (readers_on old r) (group == r) (eqb_tells group r)
+      let h = stands-at text first r before opened low are in
+      came-if list group now datagram (readers_on old r) (is_for old group r datagram) (reach old group r datagram h.listening h.at)
       (λ hit opens e.
-      let told = answer-is before are own now datagram has.0 is new (subst (λ (k : ℕ). HasListened k now datagram has.0 old new is) hit has.1) in
-      took-made list group now datagram is told.0 opens told.1 hit taken e) all
+      let told = answer-is before are own now datagram has.0 is new (subst (λ (k : ℕ). HasListened k now datagram has.0 old new is) hit.0 has.1) hit.1 in
+      took-made list group now datagram is told.0 opens told.1 hit.0 taken e) all
   came-on before are own (Expired now) new has taken all = all
   came-on before are own (Switched group reader on) new has taken all =
       stopped-if (events first before r) ((group == r) && not on) reader Restarted all
   came-on before are own (Renewed group keys) new has taken all = all
+  came-on before are own (Only group number) new has taken all = all
   came-on before are own Refused new has taken all = all
 
   pub came-made : (steps : List SubscriberStep) → AreSubscriberSteps first steps → AreOwnKeys steps r S.setup.keys → TakenAre steps r P → CameAsMade S config pasts (events first steps r)

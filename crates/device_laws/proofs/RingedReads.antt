@@ -48,11 +48,12 @@ use Rattle.device_laws.specs.Deeds.{deeds_in}
 use Rattle.device_laws.specs.Devices.{HoldsWhole, IsCounted, member_in}
 use Rattle.device_laws.specs.Publishing.{HasOffered, PublisherLife, config_in}
 use Rattle.device_laws.specs.Ringed.{AllKeysAreAmong, AreKeysAmong, ComesRinged, HoldsRinged, IsRingedPair, KeysAreAmong, ReadsRinged, RingsAreAmong, marks_of, ringed_way}
-use Rattle.device_laws.specs.Subscribing.{AreSubscriberSteps, Came, Expired, IsOpenSubscriber, IsSubscriberCall, IsTaken, Reading, Refused, Renewed, SubscriberCall, SubscriberLife, SubscriberStep, Switched, TakenAre, event_by, keys_by, read_if, reading, readers_on, setting_in, some_if, subscriber_after}
+use Rattle.device_laws.specs.Subscribing.{AreSubscriberSteps, Came, Expired, IsOpenSubscriber, IsSubscriberCall, IsTaken, Only, Reading, Refused, Renewed, SubscriberCall, SubscriberLife, SubscriberStep, Switched, TakenAre, event_by, is_for, keys_by, read_if, reading, readers_on, setting_in, some_if, subscriber_after}
 use Rattle.device_laws.specs.Turning.{past_in}
 use Rattle.device_laws.proofs.AnyLength.{held-row}
 use Rattle.device_laws.proofs.Doing.{same-past}
-use Rattle.device_laws.proofs.Heard.{keeps-member}
+use Rattle.device_laws.proofs.Heard.{keeps-member, stands-at}
+use Rattle.device_laws.proofs.Reaching.{Tells, reach}
 use Rattle.device_laws.proofs.Offered.{offered-made}
 use Rattle.device_laws.proofs.Owning.{are-deeds}
 use Rattle.device_laws.proofs.Pairs.{answer-told, restarts-on, taken-with}
@@ -99,6 +100,7 @@ module _ (text : List ℕ) (first : Subscriber) (r : ℕ) (opened : IsOpenSubscr
   keys-on (Expired now) rd list among h = h
   keys-on (Switched group reader on) rd list among h = h
   keys-on (Renewed group keys) rd list among h = keys-if group keys rd list (group == r) (eqb_tells group r) among h
+  keys-on (Only group number) rd list among h = h
   keys-on Refused rd list among h = h
 
   -- what it took was made
@@ -110,8 +112,8 @@ module _ (text : List ℕ) (first : Subscriber) (r : ℕ) (opened : IsOpenSubscr
       taken-so : is ≡ answer_on (with_keys S rd.keys) rd.value now on (Ok opens) → P datagram
       taken-so so = taken-with group now r datagram is _ P so hit has
 
-  taken-if : (rd : Reading) (group now : ℕ) (datagram : List ℕ) (on : List Bool) (b : Bool) → ((b ≡ true) × (group ≡ r)) ⊎ ((b ≡ false) × (group ≢ r))
-      → (group ≡ r → (opens : Opened) → verdict_in (with_keys S rd.keys) rd.value datagram ≡ Ok opens → IsMade config pasts datagram) → AreTaken rd (cons_option (some_if b (befalls.Got now on datagram)) [])
+  taken-if : (rd : Reading) (group now : ℕ) (datagram : List ℕ) (on : List Bool) (b : Bool) {Hit Miss : Type 0} → Tells b Hit Miss
+      → (Hit → (opens : Opened) → verdict_in (with_keys S rd.keys) rd.value datagram ≡ Ok opens → IsMade config pasts datagram) → AreTaken rd (cons_option (some_if b (befalls.Got now on datagram)) [])
   taken-if rd group now datagram on true (inl hit) own = (own hit.1, tt)
   taken-if rd group now datagram on true (inr miss) own = absurd (let e = miss.0 in cc)
   taken-if rd group now datagram on false t own = tt
@@ -125,13 +127,15 @@ module _ (text : List ℕ) (first : Subscriber) (r : ℕ) (opened : IsOpenSubscr
   taken-on before are (Came group now datagram is) new has taken =
       let old = subscriber_after first before in
       let rd = reading first before r in
-      taken-if rd group now datagram (readers_on old r) (group == r) (eqb_tells group r)
+      let h = stands-at text first r before opened low are in
+      taken-if rd group now datagram (readers_on old r) (is_for old group r datagram) (reach old group r datagram h.listening h.at)
       (λ hit opens e.
-      let told = answer-told text first r opened low before are now datagram has.0 is new (subst (λ (k : ℕ). HasListened k now datagram has.0 old new is) hit has.1) in
-      came-made rd group now datagram is told.0 opens told.1 hit taken e)
+      let told = answer-told text first r opened low before are now datagram has.0 is new (subst (λ (k : ℕ). HasListened k now datagram has.0 old new is) hit.0 has.1) hit.1 in
+      came-made rd group now datagram is told.0 opens told.1 hit.0 taken e)
   taken-on before are (Expired now) new has taken = tt
   taken-on before are (Switched group reader on) new has taken = stopped-if (reading first before r) ((group == r) && not on) reader
   taken-on before are (Renewed group keys) new has taken = tt
+  taken-on before are (Only group number) new has taken = tt
   taken-on before are Refused new has taken = tt
 
   -- over all calls

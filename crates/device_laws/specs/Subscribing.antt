@@ -6,13 +6,14 @@ use Rattle.std.specs.Option.{option_map_or}
 use Rattle.pubsub_model.specs.declared.reading.Why.TheVariants.{Restarted}
 use Rattle.message_guard.specs.declared.keys.TokenKeys.{TokenKeys}
 use Rattle.ps_config.specs.Reading.{configuration}
+use Rattle.reader_group.specs.Filter.{takes_number}
 use Rattle.reader_group.specs.Plain as befalls
 use Rattle.reader_group.specs.Plain.{Event, PlainGroup, Setting, opening, step, with_keys}
 use Rattle.reader_group.specs.Settings.{setting_of}
 use Rattle.reader_group.specs.declared.refusal.Refusal.{Refusal}
 use Rattle.reader_group.specs.declared.refusal.Taken.{Taken}
 use Rattle.device_sides.specs.declared.subscriber.Subscriber.{Subscriber}
-use Rattle.device_sides.specs.Readings.{HasKeysRenewed, HasReaderSwitched, HaveExpired}
+use Rattle.device_sides.specs.Readings.{HasKeysRenewed, HasNumber, HasReaderSwitched, HaveExpired}
 use Rattle.device_sides.specs.Sides.{AreOpeningListenings, HasListened, IsSubscriber}
 
 -- ---- calls
@@ -27,6 +28,8 @@ pub data SubscriberCall : Type 0 where
   Switched : (group reader : ℕ) (on : Bool) → SubscriberCall
   -- a read group goes on with the keys of another ring
   Renewed : (group : ℕ) (keys : List TokenKeys) → SubscriberCall
+  -- a read group takes datagrams of this NetworkMessageNumber alone from now on, of any where it is 0
+  Only : (group number : ℕ) → SubscriberCall
   -- there is no such read group or reader
   Refused : SubscriberCall
 
@@ -36,6 +39,7 @@ IsSubscriberCall (Came group now datagram answer) old new = (left : List ℕ) ×
 IsSubscriberCall (Expired now) old new = HaveExpired now old new
 IsSubscriberCall (Switched group reader on) old new = HasReaderSwitched group reader on old new
 IsSubscriberCall (Renewed group keys) old new = HasKeysRenewed group keys old new
+IsSubscriberCall (Only group number) old new = HasNumber group number old new
 IsSubscriberCall Refused old new = new ≡ old
 
 -- ---- a life
@@ -90,12 +94,22 @@ abbrev pub some_if : Bool → Event → Option Event
 some_if true event = Some event
 some_if false event = None
 
--- what a call of the subscriber is to the read group with index r, if it is something. A reader that is switched off is cut.
+-- it takes datagrams of this one's NetworkMessageNumber
+abbrev pub takes_at : Subscriber → ℕ → List ℕ → Bool
+takes_at subscriber r datagram = option_map_or (λ listening. takes_number listening.number datagram) (slice_get subscriber.groups.items r) false
+
+-- the datagram that comes to a read group is one for the read group with index r
+abbrev pub is_for : Subscriber → ℕ → ℕ → List ℕ → Bool
+is_for subscriber group r datagram = (group == r) && takes_at subscriber r datagram
+
+-- What a call of the subscriber is to the read group with index r, if it is something. A reader that is switched off is cut. A datagram of a number that the read group
+-- doesn't take is nothing to it.
 abbrev pub event_by : SubscriberCall → Subscriber → ℕ → Option Event
-event_by (Came group now datagram answer) old r = some_if (group == r) (befalls.Got now (readers_on old r) datagram)
+event_by (Came group now datagram answer) old r = some_if (is_for old group r datagram) (befalls.Got now (readers_on old r) datagram)
 event_by (Expired now) old r = Some (befalls.Expired now)
 event_by (Switched group reader on) old r = some_if ((group == r) && not on) (befalls.Stopped reader Restarted)
 event_by (Renewed group keys) old r = None
+event_by (Only group number) old r = None
 event_by Refused old r = None
 
 -- what befell the read group with index r over these calls
@@ -124,6 +138,7 @@ keys_by (Came group now datagram answer) r keys = keys
 keys_by (Expired now) r keys = keys
 keys_by (Switched group reader on) r keys = keys
 keys_by (Renewed group new) r keys = if group == r then new else keys
+keys_by (Only group number) r keys = keys
 keys_by Refused r keys = keys
 
 -- where the read group with index r stands after these calls: each datagram was read with the keys that it had when it came
@@ -146,6 +161,7 @@ KeepsKeys (Came group now datagram answer) r keys = ⊤
 KeepsKeys (Expired now) r keys = ⊤
 KeepsKeys (Switched group reader on) r keys = ⊤
 KeepsKeys (Renewed group new) r keys = group ≡ r → new ≡ keys
+KeepsKeys (Only group number) r keys = ⊤
 KeepsKeys Refused r keys = ⊤
 
 -- each ring that renewed the read group with index r has these keys
