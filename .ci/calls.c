@@ -50,7 +50,8 @@ static void check_configurations(void) {
 
 static void check_handles(void) {
     struct uap_handle handle = UAP_CLOSED_HANDLE;
-    uint8_t bytes[16], index;
+    uint8_t bytes[16];
+    uint32_t index;
     size_t length;
     struct uap_taken taken;
     DEMAND(uap_set_u32(&handle, 0, 0, 1) == UAP_CLOSED);
@@ -96,10 +97,10 @@ static void check_publisher(void) {
     DEMAND(uap_publisher_next(&handle, 305, bytes, sizeof bytes, &length) == UAP_OK);
     DEMAND(uap_publisher_standing(&handle, 0, &token, &used) == UAP_OK && token == 7 && used == 2);
     DEMAND(uap_publisher_standing(&handle, 1, &token, &used) == UAP_INDEX);
-    DEMAND(uap_publisher_resume(&handle, 0, 305, 1) == UAP_BAD_KEYS);
+    DEMAND(uap_publisher_resume(&handle, 0, 305, 1) == UAP_NUMBERS_AGAIN);
     DEMAND(uap_publisher_resume(&handle, 0, 305, 1000) == UAP_OK);
     DEMAND(uap_publisher_standing(&handle, 0, &token, &used) == UAP_OK && used == 1000);
-    DEMAND(uap_publisher_renew(&handle, 0, &set, 0) == UAP_BAD_KEYS);
+    DEMAND(uap_publisher_renew(&handle, 0, &set, 0) == UAP_NO_RING);
     DEMAND(uap_publisher_renew(&handle, 0, &set, 1) == UAP_OK);
     DEMAND(uap_publisher_resume(&handle, 0, 305, UINT32_MAX - 5) == UAP_OK);
     DEMAND(uap_publisher_next(&handle, 400, bytes, sizeof bytes, &length) == UAP_SPENT);

@@ -81,7 +81,7 @@ static inline uint32_t next(struct uap_handle *publisher, uint64_t now, struct d
 }
 
 // Gives a copy, in memory of just its length, so that a sanitizer sees a byte too far.
-static inline uint32_t give(struct uap_handle *subscriber, uint8_t group, uint64_t now, const struct datagram *datagram, struct uap_taken *taken) {
+static inline uint32_t give(struct uap_handle *subscriber, uint32_t group, uint64_t now, const struct datagram *datagram, struct uap_taken *taken) {
     uint8_t *copy = malloc(datagram->length + (datagram->length == 0));
     DEMAND(copy != NULL);
     memcpy(copy, datagram->bytes, datagram->length);
@@ -90,31 +90,31 @@ static inline uint32_t give(struct uap_handle *subscriber, uint8_t group, uint64
     return status;
 }
 
-static inline uint32_t answer(struct uap_handle *subscriber, uint8_t group, uint64_t now, const struct datagram *datagram) {
+static inline uint32_t answer(struct uap_handle *subscriber, uint32_t group, uint64_t now, const struct datagram *datagram) {
     struct uap_taken taken;
     return give(subscriber, group, now, datagram, &taken);
 }
 
 // Whether the datagram is taken, and its one message is given to a reader that can read it.
-static inline bool takes(struct uap_handle *subscriber, uint8_t group, uint64_t now, const struct datagram *datagram) {
+static inline bool takes(struct uap_handle *subscriber, uint32_t group, uint64_t now, const struct datagram *datagram) {
     struct uap_taken taken = {0, 0, 0};
     return give(subscriber, group, now, datagram, &taken) == UAP_OK && taken.parts == 1 && taken.matched == 1 && taken.bad == 0;
 }
 
 // Whether the first reader of the read group holds a row whose first field, a UInt32, has this value.
-static inline bool reads(struct uap_handle *subscriber, uint8_t group, uint32_t value) {
+static inline bool reads(struct uap_handle *subscriber, uint32_t group, uint32_t value) {
     uint32_t held = ~value;
     return uap_get_u32(subscriber, group, 0, 0, &held) == UAP_OK && held == value;
 }
 
 // Whether it holds no row, for this reason.
-static inline bool waits(struct uap_handle *subscriber, uint8_t group, uint32_t why) {
+static inline bool waits(struct uap_handle *subscriber, uint32_t group, uint32_t why) {
     uint32_t held, told = ~why;
     return uap_get_u32(subscriber, group, 0, 0, &held) == UAP_NONE && uap_reader_why(subscriber, group, 0, &told) == UAP_NONE && told == why;
 }
 
 // Whether it holds a row, and held none before for this reason.
-static inline bool has_waited(struct uap_handle *subscriber, uint8_t group, uint32_t why) {
+static inline bool has_waited(struct uap_handle *subscriber, uint32_t group, uint32_t why) {
     uint32_t told = ~why;
     return uap_reader_why(subscriber, group, 0, &told) == UAP_OK && told == why;
 }

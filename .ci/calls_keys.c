@@ -36,7 +36,7 @@ static bool is_under(const struct datagram *datagram, uint32_t token, uint32_t n
     return header.token == token && header.number == number;
 }
 
-static bool stands(struct uap_handle *publisher, uint8_t keygroup, uint32_t token, uint32_t used) {
+static bool stands(struct uap_handle *publisher, uint32_t keygroup, uint32_t token, uint32_t used) {
     uint32_t held = ~token, count = ~used;
     return uap_publisher_standing(publisher, keygroup, &held, &count) == UAP_OK && held == token && count == used;
 }
@@ -70,7 +70,7 @@ static void check_used(void) {
 }
 
 // A subscriber that has heard nothing holds a row behind a key frame, and none behind a delta frame.
-static bool is_key_frame(const struct datagram *both, uint8_t group, uint64_t now, uint32_t level) {
+static bool is_key_frame(const struct datagram *both, uint32_t group, uint64_t now, uint32_t level) {
     struct uap_handle fresh = UAP_CLOSED_HANDLE;
     DEMAND(uap_subscriber_open(&fresh, two_keys, sizeof two_keys - 1) == UAP_OK);
     DEMAND(takes(&fresh, group, now, &both[group]));
@@ -98,7 +98,7 @@ static void check_new_tokens(void) {
     for (uint32_t i = 0; i < sizeof expected / sizeof *expected; i++) {
         uint64_t now = 100 * (i + 1);
         turn(&publisher, now, i, both);
-        for (uint8_t group = 0; group < GROUPS; group++) {
+        for (uint32_t group = 0; group < GROUPS; group++) {
             DEMAND(is_under(&both[group], expected[i].tokens[group], expected[i].numbers[group]));
             DEMAND(is_key_frame(both, group, now, i) == expected[i].is_key[group]);
             DEMAND(takes(&subscriber, group, now, &both[group]) && reads(&subscriber, group, i));
@@ -117,10 +117,10 @@ static void check_resumed(void) {
     open_publisher(&publisher, two_keys);
     DEMAND(uap_publisher_resume(&publisher, SHORT_KEYS, 249, 700) == UAP_OK);
     DEMAND(stands(&publisher, SHORT_KEYS, 5, 700) && stands(&publisher, LONG_KEYS, 15, 977));
-    DEMAND(uap_publisher_resume(&publisher, SHORT_KEYS, 249, 699) == UAP_BAD_KEYS && stands(&publisher, SHORT_KEYS, 5, 700));
+    DEMAND(uap_publisher_resume(&publisher, SHORT_KEYS, 249, 699) == UAP_NUMBERS_AGAIN && stands(&publisher, SHORT_KEYS, 5, 700));
     DEMAND(uap_publisher_resume(&publisher, SHORT_KEYS, 250, 500) == UAP_OK);
     DEMAND(stands(&publisher, SHORT_KEYS, 6, 500) && stands(&publisher, LONG_KEYS, 15, 977));
-    DEMAND(uap_publisher_resume(&publisher, SHORT_KEYS, 300, 499) == UAP_BAD_KEYS && stands(&publisher, SHORT_KEYS, 6, 500));
+    DEMAND(uap_publisher_resume(&publisher, SHORT_KEYS, 300, 499) == UAP_NUMBERS_AGAIN && stands(&publisher, SHORT_KEYS, 6, 500));
     turn(&publisher, 300, 1, both);
     DEMAND(is_under(&both[SHORT_GROUP], 6, 501) && is_under(&both[LONG_GROUP], 15, 978));
     DEMAND(uap_publisher_resume(&publisher, LONG_KEYS, 350, 20) == UAP_OK);
@@ -152,7 +152,7 @@ static void check_spent(void) {
 // ---- renewed keys
 
 static const struct renewal {
-    uint8_t keygroup, group, other_group;
+    uint32_t keygroup, group, other_group;
     uint32_t token, new_token;
     uint8_t digit, new_digit;
 } renewals[] = {
@@ -274,17 +274,17 @@ static void check_resumed_with(const struct renewal *it) {
     for (uint32_t i = 0; i < 17; i++) many[i] = key_set(it->new_token + i, i, it->new_digit);
     open_publisher(&publisher, first_keys);
     DEMAND(uap_publisher_resume_with(&publisher, it->keygroup, 0, it->new_token, 700, &set, 1) == UAP_OK && stands(&publisher, it->keygroup, it->new_token, 700));
-    DEMAND(uap_publisher_resume_with(&publisher, it->keygroup, 0, it->new_token, 699, &set, 1) == UAP_BAD_KEYS);
-    DEMAND(uap_publisher_resume_with(&publisher, it->keygroup, 0, it->token, 800, &old, 1) == UAP_BAD_KEYS);
-    DEMAND(uap_publisher_resume_with(&publisher, it->keygroup, 0, it->new_token + 1, 800, &set, 1) == UAP_BAD_KEYS);
-    DEMAND(uap_publisher_resume_with(&publisher, it->keygroup, 0, it->new_token, 800, &set, 0) == UAP_BAD_KEYS);
-    DEMAND(uap_publisher_resume_with(&publisher, it->keygroup, 0, it->new_token, 800, &late, 1) == UAP_BAD_KEYS);
-    DEMAND(uap_publisher_resume_with(&publisher, it->keygroup, 0, it->new_token, 800, many, 17) == UAP_BAD_KEYS);
+    DEMAND(uap_publisher_resume_with(&publisher, it->keygroup, 0, it->new_token, 699, &set, 1) == UAP_NUMBERS_AGAIN);
+    DEMAND(uap_publisher_resume_with(&publisher, it->keygroup, 0, it->token, 800, &old, 1) == UAP_NUMBERS_AGAIN);
+    DEMAND(uap_publisher_resume_with(&publisher, it->keygroup, 0, it->new_token + 1, 800, &set, 1) == UAP_EARLIER_TOKEN);
+    DEMAND(uap_publisher_resume_with(&publisher, it->keygroup, 0, it->new_token, 800, &set, 0) == UAP_NO_RING);
+    DEMAND(uap_publisher_resume_with(&publisher, it->keygroup, 0, it->new_token, 800, &late, 1) == UAP_NO_RING);
+    DEMAND(uap_publisher_resume_with(&publisher, it->keygroup, 0, it->new_token, 800, many, 17) == UAP_MANY_KEYS);
     DEMAND(uap_publisher_resume_with(&publisher, 2, 0, it->new_token, 800, &set, 1) == UAP_INDEX);
     DEMAND(stands(&publisher, it->keygroup, it->new_token, 700));
     turn(&publisher, 100, 1, both);
     DEMAND(is_under(&both[it->group], it->new_token, 701) && header_of(&both[it->other_group]).number == 1);
-    DEMAND(uap_publisher_resume_with(&publisher, it->keygroup, 149, it->new_token, 900, sets, 2) == UAP_BAD_KEYS);
+    DEMAND(uap_publisher_resume_with(&publisher, it->keygroup, 149, it->new_token, 900, sets, 2) == UAP_EARLIER_TOKEN);
     DEMAND(uap_publisher_resume_with(&publisher, it->keygroup, 150, it->new_token, 900, sets, 2) == UAP_OK && stands(&publisher, it->keygroup, it->new_token, 900));
     DEMAND(uap_publisher_resume_with(&publisher, it->keygroup, 16, it->new_token, 3, many, 16) == UAP_OK);
     DEMAND(stands(&publisher, it->keygroup, it->new_token + 15, 3));
@@ -341,9 +341,10 @@ static void check_spelled(void) {
 
 // ---- key sets that make no ring
 
-static void demand_refused(struct uap_handle *publisher, struct uap_handle *subscriber, const struct uap_key_set *sets, size_t count) {
-    DEMAND(uap_publisher_renew(publisher, LONG_KEYS, sets, count) == UAP_BAD_KEYS);
-    DEMAND(uap_subscriber_renew(subscriber, LONG_GROUP, sets, count) == UAP_BAD_KEYS);
+static void demand_refused(struct uap_handle *publisher, struct uap_handle *subscriber, const struct uap_key_set *sets, size_t count,
+                           uint32_t status) {
+    DEMAND(uap_publisher_renew(publisher, LONG_KEYS, sets, count) == status);
+    DEMAND(uap_subscriber_renew(subscriber, LONG_GROUP, sets, count) == status);
 }
 
 // Behind each refusal the keys are those of before. Sixteen sets are a ring, and seventeen aren't.
@@ -353,14 +354,14 @@ static void check_rings(void) {
     struct uap_key_set sets[17];
     open_sides(&publisher, &subscriber, first_keys);
     for (uint32_t i = 0; i < 17; i++) sets[i] = key_set(16 + i, i, 0xd);
-    demand_refused(&publisher, &subscriber, sets, 0);
-    demand_refused(&publisher, &subscriber, sets, 17);
-    demand_refused(&publisher, &subscriber, sets + 1, 1);
+    demand_refused(&publisher, &subscriber, sets, 0, UAP_NO_RING);
+    demand_refused(&publisher, &subscriber, sets, 17, UAP_MANY_KEYS);
+    demand_refused(&publisher, &subscriber, sets + 1, 1, UAP_NO_RING);
     sets[9].token = sets[8].token;
-    demand_refused(&publisher, &subscriber, sets, 16);
+    demand_refused(&publisher, &subscriber, sets, 16, UAP_NO_RING);
     sets[9].token = sets[8].token + 1;
     sets[9].from_ms = sets[8].from_ms;
-    demand_refused(&publisher, &subscriber, sets, 16);
+    demand_refused(&publisher, &subscriber, sets, 16, UAP_NO_RING);
     sets[9].from_ms = sets[8].from_ms + 1;
     turn(&publisher, 100, 1, both);
     DEMAND(is_under(&both[LONG_GROUP], 15, 1) && takes(&subscriber, LONG_GROUP, 100, &both[LONG_GROUP]));
@@ -368,6 +369,11 @@ static void check_rings(void) {
     turn(&publisher, 200, 2, both);
     DEMAND(is_under(&both[LONG_GROUP], 31, 1));
     DEMAND(takes(&subscriber, LONG_GROUP, 200, &both[LONG_GROUP]) && reads(&subscriber, LONG_GROUP, 2));
+    // a ring of lower tokens alone is taken, and the token in use stays
+    sets[0] = key_set(3, 0, 0xe);
+    DEMAND(uap_publisher_renew(&publisher, LONG_KEYS, sets, 1) == UAP_OK);
+    turn(&publisher, 300, 3, both);
+    DEMAND(is_under(&both[LONG_GROUP], 31, 2));
     close_sides(&publisher, &subscriber);
 }
 

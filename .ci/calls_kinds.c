@@ -56,7 +56,7 @@ static const struct values samples[] = {
 };
 
 // Sets the field as one of this kind, whichever it has.
-static uint32_t set_as(struct uap_handle *publisher, uint8_t field, int kind, const struct values *values) {
+static uint32_t set_as(struct uap_handle *publisher, uint32_t field, int kind, const struct values *values) {
     switch (kind) {
     case BOOLEAN: return uap_set_bool(publisher, 0, field, values->boolean);
     case SBYTE: return uap_set_i8(publisher, 0, field, values->i8);
@@ -86,7 +86,7 @@ static uint32_t set_as(struct uap_handle *publisher, uint8_t field, int kind, co
     } while (0)
 
 // Gets the field as one of this kind, whichever it has.
-static uint32_t get_as(struct uap_handle *subscriber, uint8_t field, int kind, const struct values *values) {
+static uint32_t get_as(struct uap_handle *subscriber, uint32_t field, int kind, const struct values *values) {
     uint32_t status = UAP_NULL;
     struct uap_guid guid = {{0}};
     uint8_t bytes[ROOM];
@@ -126,12 +126,12 @@ static uint32_t get_as(struct uap_handle *subscriber, uint8_t field, int kind, c
 static void check_values(struct uap_handle *publisher, struct uap_handle *subscriber, uint64_t now, const struct values *values,
                          const struct values *others) {
     struct datagram datagram;
-    for (uint8_t field = 0; field < KINDS; field++) DEMAND(set_as(publisher, field, field, values) == UAP_OK);
+    for (uint32_t field = 0; field < KINDS; field++) DEMAND(set_as(publisher, field, field, values) == UAP_OK);
     DEMAND(next(publisher, now, &datagram) == UAP_OK && takes(subscriber, 0, now, &datagram));
-    for (uint8_t field = 0; field < KINDS; field++)
+    for (uint32_t field = 0; field < KINDS; field++)
         for (int kind = 0; kind < KINDS; kind++) {
-            DEMAND(kind == field || set_as(publisher, field, kind, others) == UAP_MISFIT);
-            DEMAND(get_as(subscriber, field, kind, values) == (kind == field ? UAP_OK : UAP_MISFIT));
+            DEMAND((uint32_t)kind == field || set_as(publisher, field, kind, others) == UAP_MISFIT);
+            DEMAND(get_as(subscriber, field, kind, values) == ((uint32_t)kind == field ? UAP_OK : UAP_MISFIT));
         }
     DEMAND(next(publisher, now + 10, &datagram) == UAP_NONE);
 }
@@ -148,7 +148,11 @@ static void check_bounds(struct uap_handle *publisher, struct uap_handle *subscr
     DEMAND(uap_set_text(publisher, 0, STRING, long_text + MOST_BYTES - CAP) == UAP_MISFIT);
     DEMAND(uap_set_bytes(publisher, 0, BYTE_STRING, long_text, CAP + 1) == UAP_MISFIT);
     DEMAND(uap_set_bytes(publisher, 0, BYTE_STRING, long_text, MOST_BYTES) == UAP_MISFIT);
-    DEMAND(uapubsub_set_scalar(publisher, 0, BOOLEAN, 1, 2) == UAP_MISFIT && uapubsub_set_scalar(publisher, 0, BYTE, 3, 256) == UAP_MISFIT);
+    DEMAND(uap_set_word(publisher, 0, BOOLEAN, UAP_BOOLEAN, 2) == UAP_MISFIT && uap_set_word(publisher, 0, BYTE, UAP_BYTE, 256) == UAP_MISFIT);
+    DEMAND(uap_set_word(publisher, 0, STRING, UAP_STRING, 0) == UAP_MISFIT && uap_set_word(publisher, 0, KINDS, UAP_BYTE, 1) == UAP_INDEX);
+    DEMAND(uap_set_word(publisher, 0, BYTE, 16, 1) == UAP_NO_KIND && uap_set_word(publisher, 9, 9, 256 + UAP_BYTE, 1) == UAP_NO_KIND);
+    DEMAND(uap_get_word(subscriber, 0, 0, BYTE, 16, &long_bits) == UAP_NO_KIND && uap_get_word(subscriber, 9, 9, 9, 0, &long_bits) == UAP_NO_KIND);
+    DEMAND(uap_get_word(subscriber, 0, 0, STRING, UAP_STRING, &long_bits) == UAP_MISFIT && uap_get_word(subscriber, 0, 9, BYTE, UAP_BYTE, &long_bits) == UAP_INDEX);
     DEMAND(uap_set_field_status(publisher, 0, INT32, 0x80000000u) == UAP_MISFIT);
     DEMAND(next(publisher, now, &datagram) == UAP_NONE);
     DEMAND(uap_set_f32_bits(publisher, 0, FLOAT, 0x7fc00001u) == UAP_OK && uap_set_f64_bits(publisher, 0, DOUBLE, 0xfff0000000000001u) == UAP_OK);
@@ -178,7 +182,7 @@ static void check_opening(struct uap_handle *publisher, struct uap_handle *subsc
     struct datagram datagram;
     uint32_t status = 1;
     DEMAND(next(publisher, now, &datagram) == UAP_OK && takes(subscriber, 0, now, &datagram));
-    for (uint8_t field = 0; field < KINDS; field++) {
+    for (uint32_t field = 0; field < KINDS; field++) {
         DEMAND(get_as(subscriber, field, field, &opening) == UAP_OK);
         DEMAND(uap_get_field_status(subscriber, 0, 0, field, &status) == UAP_OK && status == 0);
     }

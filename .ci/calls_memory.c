@@ -74,7 +74,7 @@ static uint32_t open_subscriber(struct uap_handle *handle, const void *text, siz
 // The call with each of its askings refused in turn, and then with none: then it answers this.
 static void check_taking(uint32_t (*call)(struct uap_handle *, const void *, size_t), const char *text, uint32_t answer) {
     struct uap_handle handle = UAP_CLOSED_HANDLE;
-    uint8_t index;
+    uint32_t index;
     const size_t before = held;
     for (refused = 0;; refused++) {
         asked = 0;

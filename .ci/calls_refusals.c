@@ -27,7 +27,7 @@ static const char heard[] =
 
 static const struct {
     uint32_t status;
-    uint8_t group;
+    uint32_t group;
     const char *text;
 } refused[] = {
     {UAP_HEADER_SHORT, OPEN, ""},

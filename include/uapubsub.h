@@ -8,7 +8,7 @@
  *   - malloc, realloc and free are those of one allocator, which aligns to 16.
  *   - Moments are milliseconds of one clock of the program, for each handle, and don't fall.
  *
- * Indexes count from 0, in the configuration's order. An index is a uint8_t: the compiler cuts a wider one (-Wconversion warns).
+ * Indexes count from 0, in the configuration's order. One past 255 is answered UAP_INDEX, as any that is out of range.
  *
  * What a program doesn't owe: a null pointer (also with the length 0), an index out of range, a call of a closed handle, of the other
  * side, a second opening, a value that the field doesn't have, a buffer that is too short and whatever bytes come from a socket are
@@ -38,20 +38,24 @@ extern "C" {
 
 /* What calls answer. */
 enum {
-    UAP_OK = 0,          /* it did what it says */
-    UAP_NONE = 1,        /* there is nothing: no datagram is due, or no row is held */
-    UAP_NULL = 2,        /* a pointer is null */
-    UAP_CLOSED = 3,      /* the handle is closed */
-    UAP_OPENED = 4,      /* the handle is open already */
-    UAP_OTHER_SIDE = 5,  /* the handle is a subscriber's, and the call a publisher's, or the other way about */
-    UAP_MEMORY = 6,      /* memory ran out */
-    UAP_REFUSED = 7,     /* the configuration is refused: uap_config_check says why */
-    UAP_INDEX = 8,       /* there is no such data set, field, key group, group, writer, read group or reader, or the read group has no keys */
-    UAP_MISFIT = 9,      /* the field doesn't have this kind, this value or this status: of another kind, longer than its cap, or without quality */
-    UAP_ROOM = 10,       /* the buffer is too short */
-    UAP_SPENT = 11,      /* a group that is due can have no turn: fewer than 1,024 numbers are left under its token, or all turns of its life are over */
-    UAP_BAD_TEXT = 12,   /* the text isn't UTF-8, or the text or the bytes have more than 256 bytes */
-    UAP_BAD_KEYS = 13,   /* the key sets make no ring of the key group, or are of an earlier token, or a number would be used again */
+    UAP_OK = 0,              /* it did what it says */
+    UAP_NONE = 1,            /* there is nothing: no datagram is due, or no row is held */
+    UAP_NULL = 2,            /* a pointer is null */
+    UAP_CLOSED = 3,          /* the handle is closed */
+    UAP_OPENED = 4,          /* the handle is open already */
+    UAP_OTHER_SIDE = 5,      /* the handle is a subscriber's, and the call a publisher's, or the other way about */
+    UAP_MEMORY = 6,          /* memory ran out */
+    UAP_REFUSED = 7,         /* the configuration is refused: uap_config_check says why */
+    UAP_INDEX = 8,           /* there is no such data set, field, key group, group, writer, read group or reader, or the read group has no keys */
+    UAP_MISFIT = 9,          /* the field is there, and of another kind, or doesn't have this value or this status */
+    UAP_ROOM = 10,           /* the buffer is too short */
+    UAP_SPENT = 11,          /* a group that is due can have no turn: fewer than 1,024 numbers are left under its token, or all turns of its life are over */
+    UAP_BAD_TEXT = 12,       /* the text isn't UTF-8, or the text or the bytes have more than 256 bytes */
+    UAP_MANY_KEYS = 13,      /* there are more than 16 key sets */
+    UAP_NO_RING = 14,        /* there is no key set, or tokens and moments don't rise, or the first moment isn't 0 */
+    UAP_EARLIER_TOKEN = 15,  /* the key set of the moment is of an earlier token, and what was used under that isn't known */
+    UAP_NUMBERS_AGAIN = 16,  /* numbers would be used again: the token is lower than the one in use, or is that one with a greater number used */
+    UAP_NO_KIND = 17,        /* no kind of a field, or no list, has this number */
 
     /* Why a datagram is refused. */
     UAP_HEADER_SHORT = 101,     /* it ends before its header does */
@@ -85,6 +89,40 @@ enum {
     UAP_WHY_RESTARTED = 5   /* it was disabled */
 };
 
+/* The kinds of fields: the numbers of their built-in types (OPC 10000-6 section 5.1.2). */
+enum {
+    UAP_BOOLEAN = 1,
+    UAP_SBYTE = 2,
+    UAP_BYTE = 3,
+    UAP_INT16 = 4,
+    UAP_UINT16 = 5,
+    UAP_INT32 = 6,
+    UAP_UINT32 = 7,
+    UAP_INT64 = 8,
+    UAP_UINT64 = 9,
+    UAP_FLOAT = 10,
+    UAP_DOUBLE = 11,
+    UAP_STRING = 12,
+    UAP_DATE_TIME = 13,
+    UAP_GUID = 14,
+    UAP_BYTE_STRING = 15,
+    UAP_STATUS_CODE = 19
+};
+
+/* The lists of a configuration: what uapubsub_count, uapubsub_name and uapubsub_index are asked of. */
+enum {
+    UAP_DATASETS = 0,
+    UAP_FIELDS = 1,      /* of a data set */
+    UAP_KEYGROUPS = 2,
+    UAP_GROUPS = 3,
+    UAP_WRITERS = 4,     /* of a group */
+    UAP_READ_GROUPS = 5,
+    UAP_READERS = 6      /* of a read group */
+};
+
+/* The longest name, with a zero at its end. */
+#define UAP_NAME_ROOM 33
+
 /* A handle: UAP_CLOSED_HANDLE before it is opened. What stands in it is the library's. */
 struct uap_handle {
     uint32_t is_open;
@@ -114,39 +152,57 @@ struct uap_taken {
     uint32_t bad;      /* how many of these couldn't be read */
 };
 
+/* What a field is. */
+struct uap_field_info {
+    uint32_t kind;     /* UAP_BOOLEAN .. UAP_STATUS_CODE */
+    uint32_t cap;      /* how many bytes a String or a ByteString may have; else 0 */
+    uint32_t quality;  /* 1 where each value has a status of its own, else 0 */
+};
+
+/* How C and C++ cast. */
+#ifdef __cplusplus
+#define UAP_CAST(type, it) static_cast<type>(it)
+#else
+#define UAP_CAST(type, it) ((type)(it))
+#endif
+#define UAP_BYTES(it) UAP_CAST(uint8_t *, UAP_CAST(void *, it))
+#define UAP_TEXT(it) UAP_CAST(const uint8_t *, UAP_CAST(const void *, it))
+
 /* ---- the proved calls, which take no null pointer. The calls below them test that first. */
 
 uint32_t uapubsub_config_check(const uint8_t *text, size_t length, uint8_t *error, size_t room, size_t *written);
 uint32_t uapubsub_close(struct uap_handle *handle);
-uint32_t uapubsub_set_index(struct uap_handle *handle, const uint8_t *name, size_t length, uint8_t *index);
-uint32_t uapubsub_field_index(struct uap_handle *handle, uint8_t set, const uint8_t *name, size_t length, uint8_t *index);
+uint32_t uapubsub_count(struct uap_handle *handle, uint32_t list, uint32_t of, size_t *count);
+uint32_t uapubsub_name(struct uap_handle *handle, uint32_t list, uint32_t of, uint32_t index, uint8_t *buffer, size_t room, size_t *length);
+uint32_t uapubsub_index(struct uap_handle *handle, uint32_t list, uint32_t of, const uint8_t *name, size_t length, uint32_t *index);
+uint32_t uapubsub_field_info(struct uap_handle *handle, uint32_t set, uint32_t field, struct uap_field_info *info);
 uint32_t uapubsub_publisher_open(struct uap_handle *handle, const uint8_t *text, size_t length);
 uint32_t uapubsub_publisher_next(struct uap_handle *handle, uint64_t now_ms, uint8_t *buffer, size_t room, size_t *length);
-uint32_t uapubsub_publisher_standing(struct uap_handle *handle, uint8_t keygroup, uint32_t *token, uint32_t *used);
-uint32_t uapubsub_publisher_resume(struct uap_handle *handle, uint8_t keygroup, uint64_t now_ms, uint32_t used);
-uint32_t uapubsub_publisher_resume_with(struct uap_handle *handle, uint8_t keygroup, uint64_t now_ms, uint32_t token, uint32_t used,
+uint32_t uapubsub_publisher_standing(struct uap_handle *handle, uint32_t keygroup, uint32_t *token, uint32_t *used);
+uint32_t uapubsub_publisher_resume(struct uap_handle *handle, uint32_t keygroup, uint64_t now_ms, uint32_t used);
+uint32_t uapubsub_publisher_resume_with(struct uap_handle *handle, uint32_t keygroup, uint64_t now_ms, uint32_t token, uint32_t used,
                                         const struct uap_key_set *sets, size_t count);
-uint32_t uapubsub_publisher_renew(struct uap_handle *handle, uint8_t keygroup, const struct uap_key_set *sets, size_t count);
-uint32_t uapubsub_writer_enable(struct uap_handle *handle, uint8_t group, uint8_t writer);
-uint32_t uapubsub_writer_disable(struct uap_handle *handle, uint8_t group, uint8_t writer);
+uint32_t uapubsub_publisher_renew(struct uap_handle *handle, uint32_t keygroup, const struct uap_key_set *sets, size_t count);
+uint32_t uapubsub_writer_enable(struct uap_handle *handle, uint32_t group, uint32_t writer);
+uint32_t uapubsub_writer_disable(struct uap_handle *handle, uint32_t group, uint32_t writer);
 uint32_t uapubsub_subscriber_open(struct uap_handle *handle, const uint8_t *text, size_t length);
-uint32_t uapubsub_subscriber_datagram(struct uap_handle *handle, uint8_t group, uint64_t now_ms, uint8_t *bytes, size_t length, struct uap_taken *taken);
+uint32_t uapubsub_subscriber_datagram(struct uap_handle *handle, uint32_t group, uint64_t now_ms, uint8_t *bytes, size_t length, struct uap_taken *taken);
 uint32_t uapubsub_subscriber_expire(struct uap_handle *handle, uint64_t now_ms);
-uint32_t uapubsub_subscriber_renew(struct uap_handle *handle, uint8_t group, const struct uap_key_set *sets, size_t count);
-uint32_t uapubsub_reader_enable(struct uap_handle *handle, uint8_t group, uint8_t reader);
-uint32_t uapubsub_reader_disable(struct uap_handle *handle, uint8_t group, uint8_t reader);
-uint32_t uapubsub_reader_why(struct uap_handle *handle, uint8_t group, uint8_t reader, uint32_t *why);
-uint32_t uapubsub_reader_number(struct uap_handle *handle, uint8_t group, uint8_t reader, uint16_t *number);
-uint32_t uapubsub_set_scalar(struct uap_handle *handle, uint8_t set, uint8_t field, uint32_t kind, uint64_t word);
-uint32_t uapubsub_set_text(struct uap_handle *handle, uint8_t set, uint8_t field, const uint8_t *text, size_t length);
-uint32_t uapubsub_set_bytes(struct uap_handle *handle, uint8_t set, uint8_t field, const uint8_t *bytes, size_t length);
-uint32_t uapubsub_set_guid(struct uap_handle *handle, uint8_t set, uint8_t field, const struct uap_guid *guid);
-uint32_t uapubsub_set_field_status(struct uap_handle *handle, uint8_t set, uint8_t field, uint32_t status);
-uint32_t uapubsub_get_scalar(struct uap_handle *handle, uint8_t group, uint8_t reader, uint8_t field, uint32_t kind, uint64_t *word);
-uint32_t uapubsub_get_text(struct uap_handle *handle, uint8_t group, uint8_t reader, uint8_t field, uint8_t *buffer, size_t room, size_t *length);
-uint32_t uapubsub_get_bytes(struct uap_handle *handle, uint8_t group, uint8_t reader, uint8_t field, uint8_t *buffer, size_t room, size_t *length);
-uint32_t uapubsub_get_guid(struct uap_handle *handle, uint8_t group, uint8_t reader, uint8_t field, struct uap_guid *guid);
-uint32_t uapubsub_get_field_status(struct uap_handle *handle, uint8_t group, uint8_t reader, uint8_t field, uint32_t *status);
+uint32_t uapubsub_subscriber_renew(struct uap_handle *handle, uint32_t group, const struct uap_key_set *sets, size_t count);
+uint32_t uapubsub_reader_enable(struct uap_handle *handle, uint32_t group, uint32_t reader);
+uint32_t uapubsub_reader_disable(struct uap_handle *handle, uint32_t group, uint32_t reader);
+uint32_t uapubsub_reader_why(struct uap_handle *handle, uint32_t group, uint32_t reader, uint32_t *why);
+uint32_t uapubsub_reader_number(struct uap_handle *handle, uint32_t group, uint32_t reader, uint16_t *number);
+uint32_t uapubsub_set_word(struct uap_handle *handle, uint32_t set, uint32_t field, uint32_t kind, uint64_t word);
+uint32_t uapubsub_set_text(struct uap_handle *handle, uint32_t set, uint32_t field, const uint8_t *text, size_t length);
+uint32_t uapubsub_set_bytes(struct uap_handle *handle, uint32_t set, uint32_t field, const uint8_t *bytes, size_t length);
+uint32_t uapubsub_set_guid(struct uap_handle *handle, uint32_t set, uint32_t field, const struct uap_guid *guid);
+uint32_t uapubsub_set_field_status(struct uap_handle *handle, uint32_t set, uint32_t field, uint32_t status);
+uint32_t uapubsub_get_word(struct uap_handle *handle, uint32_t group, uint32_t reader, uint32_t field, uint32_t kind, uint64_t *word);
+uint32_t uapubsub_get_text(struct uap_handle *handle, uint32_t group, uint32_t reader, uint32_t field, uint8_t *buffer, size_t room, size_t *length);
+uint32_t uapubsub_get_bytes(struct uap_handle *handle, uint32_t group, uint32_t reader, uint32_t field, uint8_t *buffer, size_t room, size_t *length);
+uint32_t uapubsub_get_guid(struct uap_handle *handle, uint32_t group, uint32_t reader, uint32_t field, struct uap_guid *guid);
+uint32_t uapubsub_get_field_status(struct uap_handle *handle, uint32_t group, uint32_t reader, uint32_t field, uint32_t *status);
 
 /* The version of the library, as UAPUBSUB_VERSION. It isn't one of the proved calls: it stands in libuapubsub.a and libuapubsub.so, and not in
  * libuapubsub_c.a. */
@@ -169,7 +225,7 @@ static inline bool uap_version_fits(void) {
  * of `error`, as far as there is room, and `written` is how many bytes of it are laid; else it is 0. */
 static inline uint32_t uap_config_check(const void *text, size_t length, char *error, size_t room, size_t *written) {
     if (text == NULL || error == NULL || written == NULL) return UAP_NULL;
-    return uapubsub_config_check((const uint8_t *)text, length, (uint8_t *)error, room, written);
+    return uapubsub_config_check(UAP_TEXT(text), length, UAP_BYTES(error), room, written);
 }
 
 /* Closes a handle of either side, and gives back its memory. */
@@ -178,139 +234,212 @@ static inline uint32_t uap_close(struct uap_handle *handle) {
     return uapubsub_close(handle);
 }
 
-/* The index of a data set by its name. */
-static inline uint32_t uap_dataset_index(struct uap_handle *handle, const char *name, uint8_t *index) {
-    if (handle == NULL || name == NULL || index == NULL) return UAP_NULL;
-    return uapubsub_set_index(handle, (const uint8_t *)name, strlen(name), index);
+/* The name of a part of a list, with a zero at its end. UAP_ROOM: `room` is less than UAP_NAME_ROOM, and nothing is written. */
+static inline uint32_t uap_name(struct uap_handle *handle, uint32_t list, uint32_t of, uint32_t index, char *buffer, size_t room) {
+    size_t length;
+    if (handle == NULL || buffer == NULL) return UAP_NULL;
+    if (room < UAP_NAME_ROOM) return UAP_ROOM;
+    uint32_t status = uapubsub_name(handle, list, of, index, UAP_BYTES(buffer), room - 1, &length);
+    if (status == UAP_OK) buffer[length] = 0;
+    return status;
 }
 
-/* The index of a field by its name, in the data set with the index `set`. */
-static inline uint32_t uap_field_index(struct uap_handle *handle, uint8_t set, const char *name, uint8_t *index) {
+static inline uint32_t uap_index(struct uap_handle *handle, uint32_t list, uint32_t of, const char *name, uint32_t *index) {
     if (handle == NULL || name == NULL || index == NULL) return UAP_NULL;
-    return uapubsub_field_index(handle, set, (const uint8_t *)name, strlen(name), index);
+    return uapubsub_index(handle, list, of, UAP_TEXT(name), strlen(name), index);
 }
+
+static inline uint32_t uap_count(struct uap_handle *handle, uint32_t list, uint32_t of, size_t *count) {
+    if (handle == NULL || count == NULL) return UAP_NULL;
+    return uapubsub_count(handle, list, of, count);
+}
+
+/* What there is, of either side: how many, the name of each, and the index of a name. The name has a zero at its end, and `room` is at least
+ * UAP_NAME_ROOM. uap_dataset_count(handle, &count), uap_dataset_name(handle, index, name, sizeof name), uap_dataset_index(handle, "drive", &index),
+ * and the same for key groups, groups and read groups. */
+#define UAP_LISTS(what, list)                                                                                                  \
+    static inline uint32_t uap_##what##_count(struct uap_handle *handle, size_t *count) {                                      \
+        return uap_count(handle, list, 0, count);                                                                              \
+    }                                                                                                                          \
+    static inline uint32_t uap_##what##_name(struct uap_handle *handle, uint32_t index, char *buffer, size_t room) {           \
+        return uap_name(handle, list, 0, index, buffer, room);                                                                 \
+    }                                                                                                                          \
+    static inline uint32_t uap_##what##_index(struct uap_handle *handle, const char *name, uint32_t *index) {                  \
+        return uap_index(handle, list, 0, name, index);                                                                        \
+    }
+UAP_LISTS(dataset, UAP_DATASETS)
+UAP_LISTS(keygroup, UAP_KEYGROUPS)
+UAP_LISTS(group, UAP_GROUPS)
+UAP_LISTS(read_group, UAP_READ_GROUPS)
+#undef UAP_LISTS
+
+/* The same of the parts of a part: uap_field_count(handle, set, &count), uap_field_name(handle, set, index, name, sizeof name),
+ * uap_field_index(handle, set, "speed", &index), and the same for the writers of a group and the readers of a read group. */
+#define UAP_LISTS(what, list)                                                                                                           \
+    static inline uint32_t uap_##what##_count(struct uap_handle *handle, uint32_t of, size_t *count) {                                  \
+        return uap_count(handle, list, of, count);                                                                                      \
+    }                                                                                                                                   \
+    static inline uint32_t uap_##what##_name(struct uap_handle *handle, uint32_t of, uint32_t index, char *buffer, size_t room) {       \
+        return uap_name(handle, list, of, index, buffer, room);                                                                         \
+    }                                                                                                                                   \
+    static inline uint32_t uap_##what##_index(struct uap_handle *handle, uint32_t of, const char *name, uint32_t *index) {              \
+        return uap_index(handle, list, of, name, index);                                                                                \
+    }
+UAP_LISTS(field, UAP_FIELDS)
+UAP_LISTS(writer, UAP_WRITERS)
+UAP_LISTS(reader, UAP_READERS)
+#undef UAP_LISTS
+
+/* What a field of a data set is: its kind, its cap, and whether its values have statuses. */
+static inline uint32_t uap_field_info(struct uap_handle *handle, uint32_t set, uint32_t field, struct uap_field_info *info) {
+    if (handle == NULL || info == NULL) return UAP_NULL;
+    return uapubsub_field_info(handle, set, field, info);
+}
+
+/* ---- names */
+
+#define UAP_NAMED(number) \
+    case number:          \
+        return #number
+
+/* The name of a status, as it stands above: "UAP_OK"; "?" where there is none. */
+static inline const char *uap_status_name(uint32_t status) {
+    switch (status) {
+        UAP_NAMED(UAP_OK);
+        UAP_NAMED(UAP_NONE);
+        UAP_NAMED(UAP_NULL);
+        UAP_NAMED(UAP_CLOSED);
+        UAP_NAMED(UAP_OPENED);
+        UAP_NAMED(UAP_OTHER_SIDE);
+        UAP_NAMED(UAP_MEMORY);
+        UAP_NAMED(UAP_REFUSED);
+        UAP_NAMED(UAP_INDEX);
+        UAP_NAMED(UAP_MISFIT);
+        UAP_NAMED(UAP_ROOM);
+        UAP_NAMED(UAP_SPENT);
+        UAP_NAMED(UAP_BAD_TEXT);
+        UAP_NAMED(UAP_MANY_KEYS);
+        UAP_NAMED(UAP_NO_RING);
+        UAP_NAMED(UAP_EARLIER_TOKEN);
+        UAP_NAMED(UAP_NUMBERS_AGAIN);
+        UAP_NAMED(UAP_NO_KIND);
+        UAP_NAMED(UAP_HEADER_SHORT);
+        UAP_NAMED(UAP_VERSION);
+        UAP_NAMED(UAP_DISCOVERY);
+        UAP_NAMED(UAP_PUBLISHER_TYPE);
+        UAP_NAMED(UAP_RESERVED);
+        UAP_NAMED(UAP_PUBLISHER_ID);
+        UAP_NAMED(UAP_NOT_OURS);
+        UAP_NAMED(UAP_NO_IDS);
+        UAP_NAMED(UAP_SIZES);
+        UAP_NAMED(UAP_MODE);
+        UAP_NAMED(UAP_FOOTER);
+        UAP_NAMED(UAP_KEY_RESET);
+        UAP_NAMED(UAP_NONCE);
+        UAP_NAMED(UAP_NO_SIGNATURE);
+        UAP_NAMED(UAP_UNKNOWN_TOKEN);
+        UAP_NAMED(UAP_OLD_TOKEN);
+        UAP_NAMED(UAP_SIGNATURE);
+        UAP_NAMED(UAP_REPEATED);
+        UAP_NAMED(UAP_TOO_OLD);
+        default: return "?";
+    }
+}
+
+/* The name of a reason to wait, as it stands above: "UAP_WHY_GAP"; "?" where there is none. */
+static inline const char *uap_why_name(uint32_t why) {
+    switch (why) {
+        UAP_NAMED(UAP_WHY_START);
+        UAP_NAMED(UAP_WHY_GAP);
+        UAP_NAMED(UAP_WHY_TIMEOUT);
+        UAP_NAMED(UAP_WHY_NEW_TOKEN);
+        UAP_NAMED(UAP_WHY_JUMP);
+        UAP_NAMED(UAP_WHY_RESTARTED);
+        default: return "?";
+    }
+}
+
+#undef UAP_NAMED
 
 /* ---- the publisher */
 
 /* Opens a publisher of a configuration. It takes all memory that it ever needs. */
 static inline uint32_t uap_publisher_open(struct uap_handle *handle, const void *text, size_t length) {
     if (handle == NULL || text == NULL) return UAP_NULL;
-    return uapubsub_publisher_open(handle, (const uint8_t *)text, length);
+    return uapubsub_publisher_open(handle, UAP_TEXT(text), length);
 }
 
-/* Sets a field of a data set, by both indexes. A turn reads what was set last. */
-static inline uint32_t uap_set_bool(struct uap_handle *handle, uint8_t set, uint8_t field, bool value) {
+/* Sets a scalar field of a data set, by both indexes, to the value with this word: a Boolean is 0 or 1, a signed number the two's complement
+ * of its own width, a Float or a Double its bits. A turn reads what was set last. */
+static inline uint32_t uap_set_word(struct uap_handle *handle, uint32_t set, uint32_t field, uint32_t kind, uint64_t word) {
     if (handle == NULL) return UAP_NULL;
-    return uapubsub_set_scalar(handle, set, field, 1, value ? 1 : 0);
+    return uapubsub_set_word(handle, set, field, kind, word);
 }
 
-static inline uint32_t uap_set_i8(struct uap_handle *handle, uint8_t set, uint8_t field, int8_t value) {
-    if (handle == NULL) return UAP_NULL;
-    return uapubsub_set_scalar(handle, set, field, 2, (uint8_t)value);
-}
+/* The same for each kind, with its own type: uap_set_bool(handle, set, field, value) and so on. A DateTime counts steps of 100 ns since
+ * 1601-01-01 UTC; of a Float or a Double `_bits` sets its bits. */
+#define UAP_SETS(name, type, width, kind)                                                                               \
+    static inline uint32_t uap_set_##name(struct uap_handle *handle, uint32_t set, uint32_t field, type value) {        \
+        return uap_set_word(handle, set, field, kind, UAP_CAST(width, value));                                          \
+    }
+UAP_SETS(bool, bool, uint8_t, UAP_BOOLEAN)
+UAP_SETS(i8, int8_t, uint8_t, UAP_SBYTE)
+UAP_SETS(u8, uint8_t, uint8_t, UAP_BYTE)
+UAP_SETS(i16, int16_t, uint16_t, UAP_INT16)
+UAP_SETS(u16, uint16_t, uint16_t, UAP_UINT16)
+UAP_SETS(i32, int32_t, uint32_t, UAP_INT32)
+UAP_SETS(u32, uint32_t, uint32_t, UAP_UINT32)
+UAP_SETS(i64, int64_t, uint64_t, UAP_INT64)
+UAP_SETS(u64, uint64_t, uint64_t, UAP_UINT64)
+UAP_SETS(f32_bits, uint32_t, uint32_t, UAP_FLOAT)
+UAP_SETS(f64_bits, uint64_t, uint64_t, UAP_DOUBLE)
+UAP_SETS(date_time, int64_t, uint64_t, UAP_DATE_TIME)
+UAP_SETS(status_code, uint32_t, uint32_t, UAP_STATUS_CODE)
+#undef UAP_SETS
 
-static inline uint32_t uap_set_u8(struct uap_handle *handle, uint8_t set, uint8_t field, uint8_t value) {
-    if (handle == NULL) return UAP_NULL;
-    return uapubsub_set_scalar(handle, set, field, 3, value);
-}
-
-static inline uint32_t uap_set_i16(struct uap_handle *handle, uint8_t set, uint8_t field, int16_t value) {
-    if (handle == NULL) return UAP_NULL;
-    return uapubsub_set_scalar(handle, set, field, 4, (uint16_t)value);
-}
-
-static inline uint32_t uap_set_u16(struct uap_handle *handle, uint8_t set, uint8_t field, uint16_t value) {
-    if (handle == NULL) return UAP_NULL;
-    return uapubsub_set_scalar(handle, set, field, 5, value);
-}
-
-static inline uint32_t uap_set_i32(struct uap_handle *handle, uint8_t set, uint8_t field, int32_t value) {
-    if (handle == NULL) return UAP_NULL;
-    return uapubsub_set_scalar(handle, set, field, 6, (uint32_t)value);
-}
-
-static inline uint32_t uap_set_u32(struct uap_handle *handle, uint8_t set, uint8_t field, uint32_t value) {
-    if (handle == NULL) return UAP_NULL;
-    return uapubsub_set_scalar(handle, set, field, 7, value);
-}
-
-static inline uint32_t uap_set_i64(struct uap_handle *handle, uint8_t set, uint8_t field, int64_t value) {
-    if (handle == NULL) return UAP_NULL;
-    return uapubsub_set_scalar(handle, set, field, 8, (uint64_t)value);
-}
-
-static inline uint32_t uap_set_u64(struct uap_handle *handle, uint8_t set, uint8_t field, uint64_t value) {
-    if (handle == NULL) return UAP_NULL;
-    return uapubsub_set_scalar(handle, set, field, 9, value);
-}
-
-/* Sets a Float to the binary32 with these bits. */
-static inline uint32_t uap_set_f32_bits(struct uap_handle *handle, uint8_t set, uint8_t field, uint32_t value) {
-    if (handle == NULL) return UAP_NULL;
-    return uapubsub_set_scalar(handle, set, field, 10, value);
-}
-
-/* Sets a Double to the binary64 with these bits. */
-static inline uint32_t uap_set_f64_bits(struct uap_handle *handle, uint8_t set, uint8_t field, uint64_t value) {
-    if (handle == NULL) return UAP_NULL;
-    return uapubsub_set_scalar(handle, set, field, 11, value);
-}
-
-/* Sets a DateTime, in steps of 100 ns since 1601-01-01 UTC. */
-static inline uint32_t uap_set_date_time(struct uap_handle *handle, uint8_t set, uint8_t field, int64_t value) {
-    if (handle == NULL) return UAP_NULL;
-    return uapubsub_set_scalar(handle, set, field, 13, (uint64_t)value);
-}
-
-/* Sets a StatusCode. */
-static inline uint32_t uap_set_status_code(struct uap_handle *handle, uint8_t set, uint8_t field, uint32_t value) {
-    if (handle == NULL) return UAP_NULL;
-    return uapubsub_set_scalar(handle, set, field, 19, value);
-}
-
-static inline uint32_t uap_set_f32(struct uap_handle *handle, uint8_t set, uint8_t field, float value) {
+static inline uint32_t uap_set_f32(struct uap_handle *handle, uint32_t set, uint32_t field, float value) {
     uint32_t bits;
     memcpy(&bits, &value, sizeof bits);
     return uap_set_f32_bits(handle, set, field, bits);
 }
 
-static inline uint32_t uap_set_f64(struct uap_handle *handle, uint8_t set, uint8_t field, double value) {
+static inline uint32_t uap_set_f64(struct uap_handle *handle, uint32_t set, uint32_t field, double value) {
     uint64_t bits;
     memcpy(&bits, &value, sizeof bits);
     return uap_set_f64_bits(handle, set, field, bits);
 }
 
 /* Sets a String to a text that ends with a zero. */
-static inline uint32_t uap_set_text(struct uap_handle *handle, uint8_t set, uint8_t field, const char *text) {
+static inline uint32_t uap_set_text(struct uap_handle *handle, uint32_t set, uint32_t field, const char *text) {
     if (handle == NULL || text == NULL) return UAP_NULL;
-    return uapubsub_set_text(handle, set, field, (const uint8_t *)text, strlen(text));
+    return uapubsub_set_text(handle, set, field, UAP_TEXT(text), strlen(text));
 }
 
-static inline uint32_t uap_set_bytes(struct uap_handle *handle, uint8_t set, uint8_t field, const void *bytes, size_t length) {
+static inline uint32_t uap_set_bytes(struct uap_handle *handle, uint32_t set, uint32_t field, const void *bytes, size_t length) {
     if (handle == NULL || bytes == NULL) return UAP_NULL;
-    return uapubsub_set_bytes(handle, set, field, (const uint8_t *)bytes, length);
+    return uapubsub_set_bytes(handle, set, field, UAP_TEXT(bytes), length);
 }
 
-static inline uint32_t uap_set_guid(struct uap_handle *handle, uint8_t set, uint8_t field, const struct uap_guid *guid) {
+static inline uint32_t uap_set_guid(struct uap_handle *handle, uint32_t set, uint32_t field, const struct uap_guid *guid) {
     if (handle == NULL || guid == NULL) return UAP_NULL;
     return uapubsub_set_guid(handle, set, field, guid);
 }
 
 /* Sets the status of a field, a StatusCode (0 is Good), and leaves its value. A data set without quality has none but Good. The calls
  * above that set a text, bytes or a Guid make the field Good; those that set a scalar leave its status. */
-static inline uint32_t uap_set_field_status(struct uap_handle *handle, uint8_t set, uint8_t field, uint32_t status) {
+static inline uint32_t uap_set_field_status(struct uap_handle *handle, uint32_t set, uint32_t field, uint32_t status) {
     if (handle == NULL) return UAP_NULL;
     return uapubsub_set_field_status(handle, set, field, status);
 }
 
 /* Switches a writer on or off, by the indexes of its group and of the writer in it. At first all are on. One that is switched on sends a
  * key frame next. */
-static inline uint32_t uap_writer_enable(struct uap_handle *handle, uint8_t group, uint8_t writer) {
+static inline uint32_t uap_writer_enable(struct uap_handle *handle, uint32_t group, uint32_t writer) {
     if (handle == NULL) return UAP_NULL;
     return uapubsub_writer_enable(handle, group, writer);
 }
 
-static inline uint32_t uap_writer_disable(struct uap_handle *handle, uint8_t group, uint8_t writer) {
+static inline uint32_t uap_writer_disable(struct uap_handle *handle, uint32_t group, uint32_t writer) {
     if (handle == NULL) return UAP_NULL;
     return uapubsub_writer_disable(handle, group, writer);
 }
@@ -320,11 +449,11 @@ static inline uint32_t uap_writer_disable(struct uap_handle *handle, uint8_t gro
  * with these keys send key frames next. */
 static inline uint32_t uap_publisher_next(struct uap_handle *handle, uint64_t now_ms, void *buffer, size_t room, size_t *length) {
     if (handle == NULL || buffer == NULL || length == NULL) return UAP_NULL;
-    return uapubsub_publisher_next(handle, now_ms, (uint8_t *)buffer, room, length);
+    return uapubsub_publisher_next(handle, now_ms, UAP_BYTES(buffer), room, length);
 }
 
 /* The token in use of a key group, and the number used last under it: what a device stores, with room above, before it sends. */
-static inline uint32_t uap_publisher_standing(struct uap_handle *handle, uint8_t keygroup, uint32_t *token, uint32_t *used) {
+static inline uint32_t uap_publisher_standing(struct uap_handle *handle, uint32_t keygroup, uint32_t *token, uint32_t *used) {
     if (handle == NULL || token == NULL || used == NULL) return UAP_NULL;
     return uapubsub_publisher_standing(handle, keygroup, token, used);
 }
@@ -332,26 +461,27 @@ static inline uint32_t uap_publisher_standing(struct uap_handle *handle, uint8_t
 /* A key group goes on behind `used` numbers of the configuration's last key set whose moment has come: what a device calls after a
  * restart, before its first uap_publisher_next, where the key in use stands in the configuration: `used` is of the token that
  * uap_publisher_standing then tells. A ring that uap_publisher_renew gave is dropped. Where the token in use changes by it, the groups with
- * these keys send key frames next; under the same token they go on as they were. UAP_BAD_KEYS: that token is lower than the one in use, or
- * is that one with a greater number used. */
-static inline uint32_t uap_publisher_resume(struct uap_handle *handle, uint8_t keygroup, uint64_t now_ms, uint32_t used) {
+ * these keys send key frames next; under the same token they go on as they were. UAP_NUMBERS_AGAIN: that token is lower than the one in
+ * use, or is that one with a greater number used. */
+static inline uint32_t uap_publisher_resume(struct uap_handle *handle, uint32_t keygroup, uint64_t now_ms, uint32_t used) {
     if (handle == NULL) return UAP_NULL;
     return uapubsub_publisher_resume(handle, keygroup, now_ms, used);
 }
 
 /* The same with other key sets, as `uap_publisher_renew` has them: what a device calls after a restart with the ring that it was renewed
- * with last. `token` and `used` are those that uap_publisher_standing told last, or a greater number. UAP_BAD_KEYS also where the key set of
- * the moment is of an earlier token: what was used under that one isn't known. Under a later token `used` numbers are passed over, and key
+ * with last. `token` and `used` are those that uap_publisher_standing told last, or a greater number. UAP_MANY_KEYS and UAP_NO_RING: the key
+ * sets make no ring. UAP_EARLIER_TOKEN: that of the moment is of an earlier token, and what was used under that one isn't known. Under a later token `used` numbers are passed over, and key
  * frames follow, as above. */
-static inline uint32_t uap_publisher_resume_with(struct uap_handle *handle, uint8_t keygroup, uint64_t now_ms, uint32_t token, uint32_t used,
+static inline uint32_t uap_publisher_resume_with(struct uap_handle *handle, uint32_t keygroup, uint64_t now_ms, uint32_t token, uint32_t used,
                                                  const struct uap_key_set *sets, size_t count) {
     if (handle == NULL || sets == NULL) return UAP_NULL;
     return uapubsub_publisher_resume_with(handle, keygroup, now_ms, token, used, sets, count);
 }
 
 /* A key group goes on with other key sets, at most 16, in the order of their tokens and moments, the first from 0. The keys in use stay until
- * one with a higher token comes to its moment: then uap_publisher_next begins with key frames. */
-static inline uint32_t uap_publisher_renew(struct uap_handle *handle, uint8_t keygroup, const struct uap_key_set *sets, size_t count) {
+ * one with a higher token comes to its moment: then uap_publisher_next begins with key frames. A ring whose tokens are all lower than the one
+ * in use is taken too (UAP_OK), and then the keys in use stay for good: uap_publisher_standing tells the token. */
+static inline uint32_t uap_publisher_renew(struct uap_handle *handle, uint32_t keygroup, const struct uap_key_set *sets, size_t count) {
     if (handle == NULL || sets == NULL) return UAP_NULL;
     return uapubsub_publisher_renew(handle, keygroup, sets, count);
 }
@@ -361,13 +491,13 @@ static inline uint32_t uap_publisher_renew(struct uap_handle *handle, uint8_t ke
 /* Opens a subscriber of a configuration. It takes all memory that it ever needs. */
 static inline uint32_t uap_subscriber_open(struct uap_handle *handle, const void *text, size_t length) {
     if (handle == NULL || text == NULL) return UAP_NULL;
-    return uapubsub_subscriber_open(handle, (const uint8_t *)text, length);
+    return uapubsub_subscriber_open(handle, UAP_TEXT(text), length);
 }
 
 /* A datagram came to a read group, which may decrypt its bytes in place: with several read groups give each a copy. */
-static inline uint32_t uap_subscriber_datagram(struct uap_handle *handle, uint8_t group, uint64_t now_ms, void *bytes, size_t length, struct uap_taken *taken) {
+static inline uint32_t uap_subscriber_datagram(struct uap_handle *handle, uint32_t group, uint64_t now_ms, void *bytes, size_t length, struct uap_taken *taken) {
     if (handle == NULL || bytes == NULL || taken == NULL) return UAP_NULL;
-    return uapubsub_subscriber_datagram(handle, group, now_ms, (uint8_t *)bytes, length, taken);
+    return uapubsub_subscriber_datagram(handle, group, now_ms, UAP_BYTES(bytes), length, taken);
 }
 
 /* Time goes on: a reader whose timeout has passed holds no row. */
@@ -376,112 +506,37 @@ static inline uint32_t uap_subscriber_expire(struct uap_handle *handle, uint64_t
     return uapubsub_subscriber_expire(handle, now_ms);
 }
 
-/* Gets a field of the row that a reader holds; UAP_NONE where it holds none. */
-static inline uint32_t uap_get_bool(struct uap_handle *handle, uint8_t group, uint8_t reader, uint8_t field, bool *value) {
-    uint64_t word = 0;
-    if (handle == NULL || value == NULL) return UAP_NULL;
-    uint32_t status = uapubsub_get_scalar(handle, group, reader, field, 1, &word);
-    if (status == UAP_OK) *value = word == 1;
-    return status;
+/* Gets the word of a scalar field of the row that a reader holds, as uap_set_word takes it; UAP_NONE where it holds none. */
+static inline uint32_t uap_get_word(struct uap_handle *handle, uint32_t group, uint32_t reader, uint32_t field, uint32_t kind, uint64_t *word) {
+    if (handle == NULL || word == NULL) return UAP_NULL;
+    return uapubsub_get_word(handle, group, reader, field, kind, word);
 }
 
-static inline uint32_t uap_get_i8(struct uap_handle *handle, uint8_t group, uint8_t reader, uint8_t field, int8_t *value) {
-    uint64_t word = 0;
-    if (handle == NULL || value == NULL) return UAP_NULL;
-    uint32_t status = uapubsub_get_scalar(handle, group, reader, field, 2, &word);
-    if (status == UAP_OK) *value = (int8_t)(uint8_t)word;
-    return status;
-}
+/* The same for each kind, with its own type: uap_get_bool(handle, group, reader, field, &value) and so on. */
+#define UAP_GETS(name, type, width, kind)                                                                                                 \
+    static inline uint32_t uap_get_##name(struct uap_handle *handle, uint32_t group, uint32_t reader, uint32_t field, type *value) {       \
+        uint64_t word = 0;                                                                                                                \
+        if (value == NULL) return UAP_NULL;                                                                                               \
+        uint32_t status = uap_get_word(handle, group, reader, field, kind, &word);                                                        \
+        if (status == UAP_OK) *value = UAP_CAST(type, UAP_CAST(width, word));                                                             \
+        return status;                                                                                                                    \
+    }
+UAP_GETS(bool, bool, uint8_t, UAP_BOOLEAN)
+UAP_GETS(i8, int8_t, uint8_t, UAP_SBYTE)
+UAP_GETS(u8, uint8_t, uint8_t, UAP_BYTE)
+UAP_GETS(i16, int16_t, uint16_t, UAP_INT16)
+UAP_GETS(u16, uint16_t, uint16_t, UAP_UINT16)
+UAP_GETS(i32, int32_t, uint32_t, UAP_INT32)
+UAP_GETS(u32, uint32_t, uint32_t, UAP_UINT32)
+UAP_GETS(i64, int64_t, uint64_t, UAP_INT64)
+UAP_GETS(u64, uint64_t, uint64_t, UAP_UINT64)
+UAP_GETS(f32_bits, uint32_t, uint32_t, UAP_FLOAT)
+UAP_GETS(f64_bits, uint64_t, uint64_t, UAP_DOUBLE)
+UAP_GETS(date_time, int64_t, uint64_t, UAP_DATE_TIME)
+UAP_GETS(status_code, uint32_t, uint32_t, UAP_STATUS_CODE)
+#undef UAP_GETS
 
-static inline uint32_t uap_get_u8(struct uap_handle *handle, uint8_t group, uint8_t reader, uint8_t field, uint8_t *value) {
-    uint64_t word = 0;
-    if (handle == NULL || value == NULL) return UAP_NULL;
-    uint32_t status = uapubsub_get_scalar(handle, group, reader, field, 3, &word);
-    if (status == UAP_OK) *value = (uint8_t)word;
-    return status;
-}
-
-static inline uint32_t uap_get_i16(struct uap_handle *handle, uint8_t group, uint8_t reader, uint8_t field, int16_t *value) {
-    uint64_t word = 0;
-    if (handle == NULL || value == NULL) return UAP_NULL;
-    uint32_t status = uapubsub_get_scalar(handle, group, reader, field, 4, &word);
-    if (status == UAP_OK) *value = (int16_t)(uint16_t)word;
-    return status;
-}
-
-static inline uint32_t uap_get_u16(struct uap_handle *handle, uint8_t group, uint8_t reader, uint8_t field, uint16_t *value) {
-    uint64_t word = 0;
-    if (handle == NULL || value == NULL) return UAP_NULL;
-    uint32_t status = uapubsub_get_scalar(handle, group, reader, field, 5, &word);
-    if (status == UAP_OK) *value = (uint16_t)word;
-    return status;
-}
-
-static inline uint32_t uap_get_i32(struct uap_handle *handle, uint8_t group, uint8_t reader, uint8_t field, int32_t *value) {
-    uint64_t word = 0;
-    if (handle == NULL || value == NULL) return UAP_NULL;
-    uint32_t status = uapubsub_get_scalar(handle, group, reader, field, 6, &word);
-    if (status == UAP_OK) *value = (int32_t)(uint32_t)word;
-    return status;
-}
-
-static inline uint32_t uap_get_u32(struct uap_handle *handle, uint8_t group, uint8_t reader, uint8_t field, uint32_t *value) {
-    uint64_t word = 0;
-    if (handle == NULL || value == NULL) return UAP_NULL;
-    uint32_t status = uapubsub_get_scalar(handle, group, reader, field, 7, &word);
-    if (status == UAP_OK) *value = (uint32_t)word;
-    return status;
-}
-
-static inline uint32_t uap_get_i64(struct uap_handle *handle, uint8_t group, uint8_t reader, uint8_t field, int64_t *value) {
-    uint64_t word = 0;
-    if (handle == NULL || value == NULL) return UAP_NULL;
-    uint32_t status = uapubsub_get_scalar(handle, group, reader, field, 8, &word);
-    if (status == UAP_OK) *value = (int64_t)word;
-    return status;
-}
-
-static inline uint32_t uap_get_u64(struct uap_handle *handle, uint8_t group, uint8_t reader, uint8_t field, uint64_t *value) {
-    uint64_t word = 0;
-    if (handle == NULL || value == NULL) return UAP_NULL;
-    uint32_t status = uapubsub_get_scalar(handle, group, reader, field, 9, &word);
-    if (status == UAP_OK) *value = (uint64_t)word;
-    return status;
-}
-
-static inline uint32_t uap_get_f32_bits(struct uap_handle *handle, uint8_t group, uint8_t reader, uint8_t field, uint32_t *value) {
-    uint64_t word = 0;
-    if (handle == NULL || value == NULL) return UAP_NULL;
-    uint32_t status = uapubsub_get_scalar(handle, group, reader, field, 10, &word);
-    if (status == UAP_OK) *value = (uint32_t)word;
-    return status;
-}
-
-static inline uint32_t uap_get_f64_bits(struct uap_handle *handle, uint8_t group, uint8_t reader, uint8_t field, uint64_t *value) {
-    uint64_t word = 0;
-    if (handle == NULL || value == NULL) return UAP_NULL;
-    uint32_t status = uapubsub_get_scalar(handle, group, reader, field, 11, &word);
-    if (status == UAP_OK) *value = (uint64_t)word;
-    return status;
-}
-
-static inline uint32_t uap_get_date_time(struct uap_handle *handle, uint8_t group, uint8_t reader, uint8_t field, int64_t *value) {
-    uint64_t word = 0;
-    if (handle == NULL || value == NULL) return UAP_NULL;
-    uint32_t status = uapubsub_get_scalar(handle, group, reader, field, 13, &word);
-    if (status == UAP_OK) *value = (int64_t)word;
-    return status;
-}
-
-static inline uint32_t uap_get_status_code(struct uap_handle *handle, uint8_t group, uint8_t reader, uint8_t field, uint32_t *value) {
-    uint64_t word = 0;
-    if (handle == NULL || value == NULL) return UAP_NULL;
-    uint32_t status = uapubsub_get_scalar(handle, group, reader, field, 19, &word);
-    if (status == UAP_OK) *value = (uint32_t)word;
-    return status;
-}
-
-static inline uint32_t uap_get_f32(struct uap_handle *handle, uint8_t group, uint8_t reader, uint8_t field, float *value) {
+static inline uint32_t uap_get_f32(struct uap_handle *handle, uint32_t group, uint32_t reader, uint32_t field, float *value) {
     uint32_t bits = 0;
     if (value == NULL) return UAP_NULL;
     uint32_t status = uap_get_f32_bits(handle, group, reader, field, &bits);
@@ -489,7 +544,7 @@ static inline uint32_t uap_get_f32(struct uap_handle *handle, uint8_t group, uin
     return status;
 }
 
-static inline uint32_t uap_get_f64(struct uap_handle *handle, uint8_t group, uint8_t reader, uint8_t field, double *value) {
+static inline uint32_t uap_get_f64(struct uap_handle *handle, uint32_t group, uint32_t reader, uint32_t field, double *value) {
     uint64_t bits = 0;
     if (value == NULL) return UAP_NULL;
     uint32_t status = uap_get_f64_bits(handle, group, reader, field, &bits);
@@ -498,56 +553,56 @@ static inline uint32_t uap_get_f64(struct uap_handle *handle, uint8_t group, uin
 }
 
 /* Gets a String, without a zero at its end. With UAP_ROOM it has `length` bytes. */
-static inline uint32_t uap_get_text(struct uap_handle *handle, uint8_t group, uint8_t reader, uint8_t field, char *buffer, size_t room,
+static inline uint32_t uap_get_text(struct uap_handle *handle, uint32_t group, uint32_t reader, uint32_t field, char *buffer, size_t room,
                                    size_t *length) {
     if (handle == NULL || buffer == NULL || length == NULL) return UAP_NULL;
-    return uapubsub_get_text(handle, group, reader, field, (uint8_t *)buffer, room, length);
+    return uapubsub_get_text(handle, group, reader, field, UAP_BYTES(buffer), room, length);
 }
 
-static inline uint32_t uap_get_bytes(struct uap_handle *handle, uint8_t group, uint8_t reader, uint8_t field, void *buffer, size_t room,
+static inline uint32_t uap_get_bytes(struct uap_handle *handle, uint32_t group, uint32_t reader, uint32_t field, void *buffer, size_t room,
                                     size_t *length) {
     if (handle == NULL || buffer == NULL || length == NULL) return UAP_NULL;
-    return uapubsub_get_bytes(handle, group, reader, field, (uint8_t *)buffer, room, length);
+    return uapubsub_get_bytes(handle, group, reader, field, UAP_BYTES(buffer), room, length);
 }
 
-static inline uint32_t uap_get_guid(struct uap_handle *handle, uint8_t group, uint8_t reader, uint8_t field, struct uap_guid *guid) {
+static inline uint32_t uap_get_guid(struct uap_handle *handle, uint32_t group, uint32_t reader, uint32_t field, struct uap_guid *guid) {
     if (handle == NULL || guid == NULL) return UAP_NULL;
     return uapubsub_get_guid(handle, group, reader, field, guid);
 }
 
 /* Gets the status of a field of the row that a reader holds, a StatusCode (0 is Good). */
-static inline uint32_t uap_get_field_status(struct uap_handle *handle, uint8_t group, uint8_t reader, uint8_t field, uint32_t *status) {
+static inline uint32_t uap_get_field_status(struct uap_handle *handle, uint32_t group, uint32_t reader, uint32_t field, uint32_t *status) {
     if (handle == NULL || status == NULL) return UAP_NULL;
     return uapubsub_get_field_status(handle, group, reader, field, status);
 }
 
 /* Switches a reader on or off, by the indexes of its read group and of the reader in it. At first all are on. One that is switched off
  * lets its row go, and waits (UAP_WHY_RESTARTED). */
-static inline uint32_t uap_reader_enable(struct uap_handle *handle, uint8_t group, uint8_t reader) {
+static inline uint32_t uap_reader_enable(struct uap_handle *handle, uint32_t group, uint32_t reader) {
     if (handle == NULL) return UAP_NULL;
     return uapubsub_reader_enable(handle, group, reader);
 }
 
-static inline uint32_t uap_reader_disable(struct uap_handle *handle, uint8_t group, uint8_t reader) {
+static inline uint32_t uap_reader_disable(struct uap_handle *handle, uint32_t group, uint32_t reader) {
     if (handle == NULL) return UAP_NULL;
     return uapubsub_reader_disable(handle, group, reader);
 }
 
 /* A read group goes on with other key sets, as `uap_publisher_renew` has them, at once: what is still sent under a token that they lack is
  * refused. */
-static inline uint32_t uap_subscriber_renew(struct uap_handle *handle, uint8_t group, const struct uap_key_set *sets, size_t count) {
+static inline uint32_t uap_subscriber_renew(struct uap_handle *handle, uint32_t group, const struct uap_key_set *sets, size_t count) {
     if (handle == NULL || sets == NULL) return UAP_NULL;
     return uapubsub_subscriber_renew(handle, group, sets, count);
 }
 
 /* Why a reader waits (UAP_NONE), or waited before the row that it holds (UAP_OK). */
-static inline uint32_t uap_reader_why(struct uap_handle *handle, uint8_t group, uint8_t reader, uint32_t *why) {
+static inline uint32_t uap_reader_why(struct uap_handle *handle, uint32_t group, uint32_t reader, uint32_t *why) {
     if (handle == NULL || why == NULL) return UAP_NULL;
     return uapubsub_reader_why(handle, group, reader, why);
 }
 
 /* The number of the message that the held row was last made of. UAP_NONE where no row is held, or the reader goes by no numbers. */
-static inline uint32_t uap_reader_number(struct uap_handle *handle, uint8_t group, uint8_t reader, uint16_t *number) {
+static inline uint32_t uap_reader_number(struct uap_handle *handle, uint32_t group, uint32_t reader, uint16_t *number) {
     if (handle == NULL || number == NULL) return UAP_NULL;
     return uapubsub_reader_number(handle, group, reader, number);
 }
@@ -561,13 +616,17 @@ static inline uint32_t uap_publisher_tick(struct uap_handle *handle, uint64_t no
     if (handle == NULL || buffer == NULL || lengths == NULL || count == NULL) return UAP_NULL;
     size_t used = 0, length;
     for (*count = 0; *count < most; (*count)++) {
-        uint32_t status = uap_publisher_next(handle, now_ms, (uint8_t *)buffer + used, room - used, &length);
+        uint32_t status = uap_publisher_next(handle, now_ms, UAP_BYTES(buffer) + used, room - used, &length);
         if (status != UAP_OK) return status;
         lengths[*count] = length;
         used += length;
     }
     return UAP_ROOM;
 }
+
+#undef UAP_CAST
+#undef UAP_BYTES
+#undef UAP_TEXT
 
 #ifdef __cplusplus
 }

@@ -50,7 +50,7 @@ struct counts {
 
 struct device {
     struct uap_handle publisher, subscriber;
-    uint8_t field[FIELDS];
+    uint32_t field[FIELDS];
     int socket;
     struct sockaddr_in peer;
     struct timespec begun;
@@ -222,7 +222,7 @@ static void demand_set(uint32_t status) {
 // What a device would read from its sensors.
 static void sample(struct device *device, uint64_t now) {
     struct uap_handle *publisher = &device->publisher;
-    const uint8_t *field = device->field;
+    const uint32_t *field = device->field;
     char celsius[24];
     snprintf(celsius, sizeof celsius, "%.1f C", 20 + (double)(now % 1000) / 100);
     demand_set(uap_set_u32(publisher, 0, field[LIFE], 1));
@@ -255,7 +255,7 @@ static void publish(struct device *device, uint64_t now) {
 static void take(struct device *device, uint64_t now, size_t length) {
     struct counts *counts = &device->counts;
     struct uap_taken taken;
-    for (uint8_t group = 0;; group++) {
+    for (uint32_t group = 0;; group++) {
         memcpy(copy, datagram, length);
         uint32_t status = uap_subscriber_datagram(&device->subscriber, group, now, copy, length, &taken);
         if (status == UAP_INDEX) return;

@@ -43,7 +43,7 @@ public:
     bool datagram(std::uint64_t now, const std::uint8_t *bytes, std::size_t length) {
         uap_taken taken = {};
         bool is_taken = false;
-        for (std::uint8_t group = 0;; group++) {
+        for (std::uint32_t group = 0;; group++) {
             copy.assign(bytes, bytes + length);
             const std::uint32_t status = uap_subscriber_datagram(&handle, group, now, copy.data(), length, &taken);
             if (status == UAP_INDEX) return is_taken;
@@ -62,19 +62,19 @@ public:
         return uap_reader_number(&handle, 0, 0, &number) == UAP_OK ? number : -1;
     }
 
-    std::uint8_t field(const char *name) {
-        std::uint8_t index = 0;
+    std::uint32_t field(const char *name) {
+        std::uint32_t index = 0;
         if (uap_field_index(&handle, 0, name, &index) != UAP_OK) throw std::runtime_error(std::string("there is no field ") + name);
         return index;
     }
 
-    std::uint32_t u32(std::uint8_t field) {
+    std::uint32_t u32(std::uint32_t field) {
         std::uint32_t value = 0;
         if (uap_get_u32(&handle, 0, 0, field, &value) != UAP_OK) throw std::runtime_error("a field isn't a UInt32");
         return value;
     }
 
-    std::string text(std::uint8_t field) {
+    std::string text(std::uint32_t field) {
         char bytes[256];
         std::size_t length = 0;
         if (uap_get_text(&handle, 0, 0, field, bytes, sizeof bytes, &length) != UAP_OK) throw std::runtime_error("a field isn't a String");
@@ -116,7 +116,7 @@ int open_port(unsigned port) {
 void listen(Subscriber &subscriber, int socket, std::uint64_t until) {
     using clock = std::chrono::steady_clock;
     std::vector<std::uint8_t> bytes(65536);
-    const std::uint8_t reading = subscriber.field("reading"), celsius = subscriber.field("celsius");
+    const std::uint32_t reading = subscriber.field("reading"), celsius = subscriber.field("celsius");
     const clock::time_point begun = clock::now();
     unsigned long taken = 0, refused = 0;
     int printed = -1;

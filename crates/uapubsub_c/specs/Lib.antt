@@ -1,8 +1,14 @@
+pub mod Answers
 pub mod Getting
 pub mod Handles
 pub mod Holding
 pub mod Keys
+pub mod Laying
 pub mod Lines
+pub mod Listing
 pub mod Nexts
 pub mod Numbers
+pub mod Opening
+pub mod Reading
 pub mod Setting
+pub mod Switching

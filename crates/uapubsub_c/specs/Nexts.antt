@@ -1,16 +1,33 @@
 -- What a call for the next datagram does.
-use Rattle.std.specs.Prelude.{◌≡◌, ℕ, ◌+◌, [], length, slice_index_or}
+use Rattle.std.specs.Prelude.{◌≡◌, ℕ, ◌+◌, ◌<◌, [], List, length, slice_index_or, Result, Ok, Err}
 use Rattle.writer_group.specs.Standing.{datagrams_in}
 use Rattle.device_sides.specs.Coming.{ComesTo}
-use Rattle.device_sides.specs.declared.asked.Next.TheVariants.{Datagram}
+use Rattle.device_sides.specs.declared.asked.Next.TheVariants as nexts
 use Rattle.device_sides.specs.declared.publisher.Publisher.{Publisher}
+use Rattle.uapubsub_c.specs.Laying.{IsLaidOut}
+use Rattle.uapubsub_c.specs.declared.status.Status.{Status}
+use Rattle.uapubsub_c.specs.declared.status.Status.TheVariants.{Nothing, Room, Spent}
 
--- the datagram that waits has this length
-abbrev pub WaitsWith : ℕ → Publisher → Type 0
-WaitsWith count publisher = count ≡ length (slice_index_or (datagrams_in publisher.out) publisher.handed [])
+-- the datagram that waits
+abbrev pub waiting_datagram : Publisher → List ℕ
+waiting_datagram publisher = slice_index_or (datagrams_in publisher.out) publisher.handed []
 
--- the publisher comes to the moment, and the datagram that then waits is handed over
-pub record HandsNext (now : ℕ) (old new : Publisher) : Type 0 where
+-- the publisher comes to the moment, and the datagram that then waits is laid at the front of the buffer, and handed over
+pub record HandsNext (now : ℕ) (buffer left : List ℕ) (count : ℕ) (old new : Publisher) : Type 0 where
   pub mid : Publisher
-  pub comes : ComesTo now Datagram old mid
+  pub comes : ComesTo now nexts.Datagram old mid
+  pub laid : IsLaidOut (waiting_datagram mid) buffer left count
   pub handed : new ≡ record mid { handed = mid.handed + 1 }
+
+-- the publisher comes to the moment, and the datagram that then waits has so many bytes, which are more than the buffer has
+pub record Waits (now : ℕ) (buffer : List ℕ) (count : ℕ) (old new : Publisher) : Type 0 where
+  pub comes : ComesTo now nexts.Datagram old new
+  pub count_is : count ≡ length (waiting_datagram new)
+  pub longer : length buffer < count
+
+abbrev pub ComesNext : ℕ → List ℕ → List ℕ → ℕ → Publisher → Result Unit Status → Publisher → Type 0
+ComesNext now buffer left count old (Ok value) new = HandsNext now buffer left count old new
+ComesNext now buffer left count old (Err Nothing) new = ComesTo now nexts.Nothing old new
+ComesNext now buffer left count old (Err Spent) new = ComesTo now nexts.Spent old new
+ComesNext now buffer left count old (Err Room) new = Waits now buffer count old new
+ComesNext now buffer left count old (Err other) new = ⊥

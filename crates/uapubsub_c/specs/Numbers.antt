@@ -1,5 +1,5 @@
 -- The numbers by which C sees refusals and reasons to wait: those of include/uapubsub.h.
-use Rattle.std.specs.Prelude.{ℕ}
+use Rattle.std.specs.Prelude.{ℕ, Result, Ok, Err}
 use Rattle.pubsub_model.specs.declared.reading.Why.{Why}
 use Rattle.pubsub_model.specs.declared.reading.Why.TheVariants.{Gap, Jump, NewToken, Restarted, Start, Timeout}
 use Rattle.uadp_header.specs.declared.fault.HeaderFault.{HeaderFault}
@@ -8,6 +8,8 @@ use Rattle.message_guard.specs.declared.open_fault.OpenFault.{OpenFault}
 use Rattle.message_guard.specs.declared.open_fault.OpenFault.TheVariants as guards
 use Rattle.reader_group.specs.declared.refusal.Refusal.{Refusal}
 use Rattle.reader_group.specs.declared.refusal.Refusal.TheVariants as refusals
+use Rattle.uapubsub_c.specs.declared.status.Status.{Status}
+use Rattle.uapubsub_c.specs.declared.status.Status.TheVariants.{BadText, Closed, Datagram, EarlierToken, Index, ManyKeys, Memory, Misfit, NoKind, NoRing, Nothing, NumbersAgain, Opened, OtherSide, Refused, Room, Spent}
 
 -- why a reader holds no row
 abbrev pub why_number : Why → ℕ
@@ -45,3 +47,28 @@ refusal_number refusals.NotOurs = 110
 refusal_number refusals.NoIds = 111
 refusal_number refusals.BadSizes = 112
 refusal_number (refusals.Guard fault) = guard_number fault
+
+-- why a call didn't do what it says
+abbrev pub status_number : Status → ℕ
+status_number Nothing = 1
+status_number Closed = 3
+status_number Opened = 4
+status_number OtherSide = 5
+status_number Memory = 6
+status_number Refused = 7
+status_number Index = 8
+status_number Misfit = 9
+status_number Room = 10
+status_number Spent = 11
+status_number BadText = 12
+status_number ManyKeys = 13
+status_number NoRing = 14
+status_number EarlierToken = 15
+status_number NumbersAgain = 16
+status_number NoKind = 17
+status_number (Datagram refusal) = refusal_number refusal
+
+-- an answer: UAP_OK is 0
+abbrev pub number_of : {T : Type 0} → Result T Status → ℕ
+number_of (Ok value) = 0
+number_of (Err status) = status_number status

@@ -1,11 +1,11 @@
 //! Judging a configuration.
-ghost use Rattle.std.specs.Prelude.{◌≡◌, ◌≢◌, ◌≤◌, [], ◌∷◌, IsOk, IfOk, IfErr, IfNone, IfSome, length};
+ghost use Rattle.std.specs.Prelude.{◌≡◌, ◌≤◌, IfErr, IfNone, IfOk, IfSome, IsOk, length};
 ghost use Rattle.ps_config.specs.Reading.{configuration, IsEnd};
-ghost use Rattle.uapubsub_c.specs.Handles.{IsOneOf, IsRefusal, IsRefused};
-ghost use Rattle.uapubsub_c.specs.Lines.{IsFrontLaid, TellsRefusal, line_of};
+ghost use Rattle.uapubsub_c.specs.Answers.{IsSeen};
+ghost use Rattle.uapubsub_c.specs.Lines.{IsFrontLaid, Judges, TellsEnd, line_of};
 
 use crate::laying::lay_front;
-use crate::status::{MEMORY, OK, REFUSED};
+use crate::status::{Status, number_of};
 use ps_config::{ConfigEnd, read_config};
 use std::alloc::Global;
 
@@ -18,23 +18,26 @@ pub extern "C" fn uapubsub_config_check(
     error: &mut [u8],
     written: &mut usize,
 ) -> u32
-    ensures answers { IsOneOf (OK ∷ REFUSED ∷ MEMORY ∷ []) result }
-    ensures ok { result ≡ OK → IsOk (configuration text.now) }
-    ensures refused { result ≡ REFUSED → IsRefused text.now }
-    ensures line { result ≡ REFUSED → TellsRefusal text.now error.old error.new written.new }
+    ensures judges { IsSeen (Judges text.now error.old error.new written.new) result }
     ensures room { written.new ≤ length error.old }
-    ensures untold { result ≢ REFUSED → error.new ≡ error.old }
-    ensures none { result ≢ REFUSED → written.new ≡ 0 }
 {
     *written = 0;
-    match judge(alloc, text) {
-        Ok(()) => OK,
-        Err(end) => tell(alloc, &end, error, written),
+    number_of(judge(alloc, text, error, written))
+}
+
+fn judge(alloc: Global, text: &[u8], error: &mut [u8], written: &mut usize) -> Result<(), Status>
+    requires { written.old ≡ 0 }
+    ensures judges { Judges text.now error.old error.new written.new result }
+    ensures room { written.new ≤ length error.old }
+{
+    match read(alloc, text) {
+        Ok(()) => Ok(()),
+        Err(end) => Err(tell(alloc, &end, error, written)),
     }
 }
 
-/// Judges the configuration that the text is.
-fn judge(alloc: Global, text: &[u8]) -> Result<(), ConfigEnd>
+/// Reads the configuration that the text is, and lets it go.
+fn read(alloc: Global, text: &[u8]) -> Result<(), ConfigEnd>
     ensures ok { IfOk result (λ _. IsOk (configuration text.now)) }
     ensures refused { IfErr result (IsEnd (configuration text.now)) }
 {
@@ -43,25 +46,19 @@ fn judge(alloc: Global, text: &[u8]) -> Result<(), ConfigEnd>
 }
 
 /// Lays the line of a refusal, if there is memory for it.
-fn tell(alloc: Global, end: &ConfigEnd, error: &mut [u8], written: &mut usize) -> u32
-    ensures answers { IsOneOf (REFUSED ∷ MEMORY ∷ []) result }
-    ensures refused { result ≡ REFUSED → IsRefusal end.now }
-    ensures line { result ≡ REFUSED
-        → IsFrontLaid (line_of end.now) error.old error.new written.new }
-    ensures not_ok { result ≢ OK }
+fn tell(alloc: Global, end: &ConfigEnd, error: &mut [u8], written: &mut usize) -> Status
+    requires { written.old ≡ 0 }
+    ensures tells { TellsEnd end.now error.old error.new written.new result }
     ensures room { written.new ≤ length error.old }
-    ensures untold { result ≢ REFUSED → error.new ≡ error.old }
-    ensures none { result ≢ REFUSED → written.new ≡ 0 }
 {
-    *written = 0;
     match end {
-        ConfigEnd::Memory => MEMORY,
+        ConfigEnd::Memory => Status::Memory,
         ConfigEnd::Refused { .. } => {
             let Some(count) = lay_line(alloc, end, error) else {
-                return MEMORY;
+                return Status::Memory;
             };
             *written = count;
-            REFUSED
+            Status::Refused
         }
     }
 }

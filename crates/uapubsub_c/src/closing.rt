@@ -3,7 +3,6 @@ ghost use Rattle.std.specs.Prelude.{◌≡◌};
 ghost use Rattle.uapubsub_c.specs.Handles.{IsReady};
 
 use crate::handle::Handle;
-use crate::status::OK;
 use std::alloc::Global;
 
 /// Closes the handle, and gives back all its memory. A closed one stays closed.
@@ -12,8 +11,8 @@ pub extern "C" fn uapubsub_close(alloc: Global, handle: &mut Handle) -> u32
     requires { IsReady handle.old }
     ensures ready { IsReady handle.new }
     ensures closed { handle.new.is_open ≡ 0 }
-    ensures ok { result ≡ OK }
+    ensures ok { result ≡ 0 }
 {
     drop(handle.take(alloc));
-    OK
+    0
 }

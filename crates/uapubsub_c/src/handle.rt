@@ -1,11 +1,15 @@
 //! Handles.
-ghost use Rattle.std.specs.Prelude.{◌≡◌, ◌≢◌, [], ◌∷◌, IfSome, IfNone, None};
-ghost use Rattle.uapubsub_c.specs.Handles.{Holds, IsOneOf, IsReady, IsSound};
+ghost use Rattle.std.specs.Prelude.{◌≡◌, IfErr, IfNone, IfOk, IfSome, None};
+ghost use Rattle.std.specs.Fn.{FnOnceReturnsAt, FnOnceReturnsAtMut};
+ghost use Rattle.uapubsub_c.specs.Answers.{Answered, AsksPublisher, AsksSubscriber, MovesPublisher, MovesSubscriber, OfConfig, OfPublisher, OfSubscriber, Stays};
+ghost use Rattle.uapubsub_c.specs.Handles.{Holds, IsReady, IsSound};
 
 use crate::kept::Kept;
 use crate::loose::Loose;
 use crate::slot::Slot;
-use crate::status::{MEMORY, OK};
+use crate::status::Status;
+use device_sides::{Publisher, Subscriber};
+use ps_config::Config;
 use std::alloc::Global;
 use std::mem::replace;
 
@@ -59,20 +63,115 @@ impl Handle {
     }
 
     /// Opens it with a side of a device, if there is memory for that.
-    pub fn keep(&mut self, alloc: Global, kept: Kept) -> u32
+    pub fn keep(&mut self, alloc: Global, kept: Kept) -> Result<(), Status>
         requires ready { IsReady self.old }
         requires sound { IsSound kept }
         ensures ready { IsReady self.new }
-        ensures held { result ≡ OK → Holds kept self.new }
-        ensures not { result ≢ OK → self.new ≡ self.old }
-        ensures answers { IsOneOf (OK ∷ MEMORY ∷ []) result }
+        ensures held { IfOk result (λ _. Holds kept self.new) }
+        ensures not { IfErr result (λ _. self.new ≡ self.old) }
+        ensures memory { IfErr result (λ status. status ≡ Status.Memory) }
     {
         match Box::new(alloc, kept) {
             Ok(kept) => {
                 self.put(kept);
-                OK
+                Ok(())
             }
-            Err(_) => MEMORY,
+            Err(_) => Err(Status::Memory),
         }
+    }
+
+    /// Has the publisher that is held moved by this.
+    pub fn publisher<F: FnOnce(&mut Publisher) -> Result<(), Status>>(
+        &mut self,
+        alloc: Global,
+        moving: F,
+    ) -> Result<(), Status>
+        requires ready { IsReady self.old }
+        requires moving { MovesPublisher F.FnOnce moving }
+        ensures { Answered (OfPublisher (FnOnceReturnsAtMut F.FnOnce moving))
+            self.old result self.new }
+    {
+        let Some(mut kept) = self.take(alloc) else {
+            return Err(Status::Closed);
+        };
+        let answer = kept.publisher(moving);
+        self.put(kept);
+        answer
+    }
+
+    /// Has the subscriber that is held moved by this.
+    pub fn subscriber<F: FnOnce(&mut Subscriber) -> Result<(), Status>>(
+        &mut self,
+        alloc: Global,
+        moving: F,
+    ) -> Result<(), Status>
+        requires ready { IsReady self.old }
+        requires moving { MovesSubscriber F.FnOnce moving }
+        ensures { Answered (OfSubscriber (FnOnceReturnsAtMut F.FnOnce moving))
+            self.old result self.new }
+    {
+        let Some(mut kept) = self.take(alloc) else {
+            return Err(Status::Closed);
+        };
+        let answer = kept.subscriber(moving);
+        self.put(kept);
+        answer
+    }
+
+    /// Asks the publisher that is held.
+    pub fn ask_publisher<T, F: FnOnce(&Publisher) -> Result<T, Status>>(
+        &mut self,
+        alloc: Global,
+        question: F,
+    ) -> Result<T, Status>
+        requires ready { IsReady self.old }
+        requires question { AsksPublisher F.FnOnce question }
+        ensures { Answered (OfPublisher (Stays (FnOnceReturnsAt F.FnOnce question)))
+            self.old result self.new }
+    {
+        let Some(kept) = self.take(alloc) else {
+            return Err(Status::Closed);
+        };
+        let answer = kept.ask_publisher(question);
+        self.put(kept);
+        answer
+    }
+
+    /// Asks the subscriber that is held.
+    pub fn ask_subscriber<T, F: FnOnce(&Subscriber) -> Result<T, Status>>(
+        &mut self,
+        alloc: Global,
+        question: F,
+    ) -> Result<T, Status>
+        requires ready { IsReady self.old }
+        requires question { AsksSubscriber F.FnOnce question }
+        ensures { Answered (OfSubscriber (Stays (FnOnceReturnsAt F.FnOnce question)))
+            self.old result self.new }
+    {
+        let Some(kept) = self.take(alloc) else {
+            return Err(Status::Closed);
+        };
+        let answer = kept.ask_subscriber(question);
+        self.put(kept);
+        answer
+    }
+
+    /// Asks the configuration of the side that is held.
+    pub fn ask_config<T, F: FnOnce(&Config) -> Result<T, Status>>(
+        &mut self,
+        alloc: Global,
+        question: F,
+    ) -> Result<T, Status>
+        requires ready { IsReady self.old }
+        requires question { F.IsAlwaysCallable question }
+        ensures { Answered (OfConfig (FnOnceReturnsAt F.FnOnce question))
+            self.old result self.new }
+    {
+        let Some(kept) = self.take(alloc) else {
+            return Err(Status::Closed);
+        };
+        let answer = question(kept.config());
+        self.put(kept);
+        answer
     }
 }

@@ -1,9 +1,10 @@
 //! Key sets that C gives.
-ghost use Rattle.std.specs.Prelude.{◌≡◌, ◌≤◌, IfNone, IfSome, length, take};
+ghost use Rattle.std.specs.Prelude.{◌≡◌, ◌≤◌, IfErr, IfOk, length, take};
 ghost use Rattle.group_keys.specs.KeySets.{encrypting_length};
 ghost use Rattle.group_keys.specs.Ring.{is_long, key_sets};
 ghost use Rattle.uapubsub_c.specs.Keys.{MakeNoRing, key_set_in, key_sets_in};
 
+use crate::status::Status;
 use arrayvec::ArrayVec;
 use group_keys::{KeySet, Ring};
 use ps_config::KeyBytes;
@@ -26,18 +27,18 @@ pub struct KeySetWords {
     pub encrypting: [u8; 32],
 }
 
-/// The ring of these sets, if they make one. A long ring has keys of AES-256.
-pub fn ring_of_words(long: bool, sets: &[KeySetWords]) -> Option<Ring>
-    ensures sets { IfSome result (λ ring. key_sets ring ≡ key_sets_in long sets.now) }
-    ensures long { IfSome result (λ ring. is_long ring ≡ long) }
-    ensures none { IfNone result (MakeNoRing long sets.now) }
+/// The ring of these sets, or why they make none. A long ring has keys of AES-256.
+pub fn ring_of_words(long: bool, sets: &[KeySetWords]) -> Result<Ring, Status>
+    ensures sets { IfOk result (λ ring. key_sets ring ≡ key_sets_in long sets.now) }
+    ensures long { IfOk result (λ ring. is_long ring ≡ long) }
+    ensures none { IfErr result (MakeNoRing long sets.now) }
 {
     if sets.len() > MOST_SETS {
-        return None;
+        return Err(Status::ManyKeys);
     }
     match Ring::new(long, key_sets_of(long, sets)) {
-        Ok(ring) => Some(ring),
-        Err(_) => None,
+        Ok(ring) => Ok(ring),
+        Err(_) => Err(Status::NoRing),
     }
 }
 

@@ -1,6 +1,9 @@
 //! Bytes for C.
 ghost use Rattle.std.specs.Prelude.{◌≡◌, ◌≤◌, ◌++◌, drop, length, take};
+ghost use Rattle.uapubsub_c.specs.Laying.{AreLaid};
 ghost use Rattle.uapubsub_c.specs.Lines.{IsFrontLaid};
+
+use crate::status::Status;
 
 /// Lays the bytes at the front of the buffer, and tells how many there are.
 pub fn lay(bytes: &[u8], buffer: &mut [u8]) -> usize
@@ -10,6 +13,18 @@ pub fn lay(bytes: &[u8], buffer: &mut [u8]) -> usize
 {
     buffer[..bytes.len()].copy_from_slice(bytes);
     bytes.len()
+}
+
+/// Lays the bytes at the front of the buffer, if it has room for all of them, and tells how many there are.
+pub fn lay_whole(bytes: &[u8], buffer: &mut [u8], count: &mut usize) -> u32
+    ensures { AreLaid bytes.now result buffer.old buffer.new count.new }
+{
+    *count = bytes.len();
+    if bytes.len() > buffer.len() {
+        return Status::Room.number();
+    }
+    *count = lay(bytes, buffer);
+    0
 }
 
 /// Lays the bytes at the front of the buffer, as far as there is room, and tells how many of them.

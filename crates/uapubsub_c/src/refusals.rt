@@ -1,5 +1,5 @@
 //! Numbers of refusals.
-ghost use Rattle.std.specs.Prelude.{◌≡◌, ◌≤◌};
+ghost use Rattle.std.specs.Prelude.{◌≡◌};
 ghost use Rattle.uapubsub_c.specs.Numbers.{guard_number, header_number, refusal_number};
 
 use message_guard::OpenFault;
@@ -7,9 +7,8 @@ use reader_group::Refusal;
 use uadp_header::HeaderFault;
 
 /// The number by which C sees why a datagram is refused.
-pub fn number_of(refusal: &Refusal) -> u32
-    ensures number { result ≡ refusal_number refusal.now }
-    ensures large { 100 ≤ result }
+pub fn refusal_number(refusal: &Refusal) -> u32
+    ensures { result ≡ refusal_number refusal.now }
 {
     match refusal {
         Refusal::Header(fault) => header_number(fault),
@@ -21,8 +20,7 @@ pub fn number_of(refusal: &Refusal) -> u32
 }
 
 fn header_number(fault: &HeaderFault) -> u32
-    ensures number { result ≡ header_number fault.now }
-    ensures large { 100 ≤ result }
+    ensures { result ≡ header_number fault.now }
 {
     match fault {
         HeaderFault::Short => 101,
@@ -35,8 +33,7 @@ fn header_number(fault: &HeaderFault) -> u32
 }
 
 fn guard_number(fault: &OpenFault) -> u32
-    ensures number { result ≡ guard_number fault.now }
-    ensures large { 100 ≤ result }
+    ensures { result ≡ guard_number fault.now }
 {
     match fault {
         OpenFault::ModeDiffers => 121,

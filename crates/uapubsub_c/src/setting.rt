@@ -1,17 +1,16 @@
 //! Setting fields.
-ghost use Rattle.std.specs.Prelude.{◌≡◌, ◌≢◌, [], ◌∷◌, IsErr};
-ghost use Rattle.ua_values.specs.Blobs.{blob_of};
-ghost use Rattle.ua_values.specs.Texts.{text_of};
-ghost use Rattle.device_sides.specs.Sides.{HasSetStatus};
-ghost use Rattle.uapubsub_c.specs.Getting.{IsSubscriberSide, PublisherIs, PublisherMoves};
-ghost use Rattle.uapubsub_c.specs.Handles.{HasBytesIn, HasScalarIn, HasSetIn, HasTextIn, IsOneOf, IsReady, IsSound, IsUnset, Leaves, StaysUnset, Tells};
-ghost use Rattle.uapubsub_c.specs.Setting.{IsBytesMisfit, IsCodeMisfit, IsScalarMisfit, IsTextMisfit, IsValueMisfit, SetsField, SetsNoField};
+ghost use Rattle.std.specs.Prelude.{◌≡◌};
+ghost use Rattle.device_sides.specs.Sides.{IsPublisher};
+ghost use Rattle.uapubsub_c.specs.Answers.{Calls, OfPublisher};
+ghost use Rattle.uapubsub_c.specs.Handles.{IsReady};
+ghost use Rattle.uapubsub_c.specs.Setting.{SetsBytes, SetsStatus, SetsText, SetsValue, SetsWord};
 
 use crate::guid::GuidBytes;
 use crate::handle::Handle;
-use crate::kept::Kept;
+use crate::indexes::two_indexes;
 use crate::kinds::kind_numbered;
-use crate::status::{BAD_TEXT, CLOSED, INDEX, MISFIT, OK, OTHER_SIDE};
+use crate::status::{Status, number_of};
+use device_sides::Publisher;
 use std::alloc::Global;
 use ua_values::{Blob, Text, Value};
 
@@ -21,61 +20,46 @@ const GOOD: u32 = 0;
 /// Sets a scalar field to the value with this word: a Boolean is 0 or 1, a signed number the two's complement of its own width, a Float
 /// or a Double its bits. The kind is the number of the built-in type (OPC 10000-6 section 5.1.2).
 #[unsafe(no_mangle)]
-pub extern "C" fn uapubsub_set_scalar(
+pub extern "C" fn uapubsub_set_word(
     alloc: Global,
     handle: &mut Handle,
-    set: u8,
-    field: u8,
+    set: u32,
+    field: u32,
     kind: u32,
     word: u64,
 ) -> u32
     requires { IsReady handle.old }
-    ensures answers { IsOneOf (CLOSED ∷ OK ∷ MISFIT ∷ INDEX ∷ OTHER_SIDE ∷ []) result }
-    ensures ready { IsReady handle.new }
-    ensures set { result ≡ OK → Leaves handle.old handle.new (HasScalarIn set field kind word) }
-    ensures misfit { result ≡ MISFIT
-        → Tells handle.old (PublisherIs (IsScalarMisfit set field kind word)) }
-    ensures there { result ≡ MISFIT → Tells handle.old (PublisherIs (SetsField set field)) }
-    ensures index { result ≡ INDEX → Tells handle.old (PublisherIs (SetsNoField set field)) }
-    ensures other_side { result ≡ OTHER_SIDE → Tells handle.old IsSubscriberSide }
-    ensures unset { result ≢ OK → StaysUnset handle.old handle.new }
-    ensures closed { result ≡ CLOSED → handle.old.is_open ≡ 0 }
-    ensures shut { result ≡ CLOSED → handle.new ≡ handle.old }
+    ensures { Calls (OfPublisher (SetsWord set field kind word)) handle.old result handle.new }
 {
-    let Some(mut kept) = handle.take(alloc) else {
-        return CLOSED;
-    };
-    let answer = set_scalar_in(&mut kept, set, field, kind, word);
-    handle.put(kept);
-    answer
+    number_of(handle.publisher(alloc, |publisher| {
+        set_word(publisher, set, field, kind, word)
+    }))
 }
 
-fn set_scalar_in(kept: &mut Kept, set: u8, field: u8, kind: u32, word: u64) -> u32
-    requires { IsSound kept.old }
-    ensures answers { IsOneOf (OK ∷ MISFIT ∷ INDEX ∷ OTHER_SIDE ∷ []) result }
-    ensures sound { IsSound kept.new }
-    ensures set { result ≡ OK → HasScalarIn set field kind word kept.old kept.new }
-    ensures misfit { result ≡ MISFIT
-        → PublisherIs (IsScalarMisfit set field kind word) kept.old }
-    ensures there { result ≡ MISFIT → PublisherIs (SetsField set field) kept.old }
-    ensures index { result ≡ INDEX → PublisherIs (SetsNoField set field) kept.old }
-    ensures other_side { result ≡ OTHER_SIDE → IsSubscriberSide kept.old }
-    ensures unset { result ≢ OK → IsUnset kept.old kept.new }
-    ensures not_closed { result ≢ CLOSED }
+fn set_word(
+    publisher: &mut Publisher,
+    set: u32,
+    field: u32,
+    kind: u32,
+    word: u64,
+) -> Result<(), Status>
+    requires { IsPublisher publisher.old }
+    ensures publisher { IsPublisher publisher.new }
+    ensures sets { SetsWord set field kind word publisher.old result publisher.new }
 {
-    let Kept::Publisher(publisher) = kept else {
-        return OTHER_SIDE;
+    let Some(kind) = kind_numbered(kind) else {
+        return Err(Status::NoKind);
+    };
+    let Some((set, field)) = two_indexes(set, field) else {
+        return Err(Status::Index);
     };
     if !publisher.has_field(set, field) {
-        return INDEX;
+        return Err(Status::Index);
     }
-    let Some(kind) = kind_numbered(kind) else {
-        return MISFIT;
-    };
     if publisher.set_word(set, field, kind, word) {
-        OK
+        Ok(())
     } else {
-        MISFIT
+        Err(Status::Misfit)
     }
 }
 
@@ -84,28 +68,24 @@ fn set_scalar_in(kept: &mut Kept, set: u8, field: u8, kind: u32, word: u64) -> u
 pub extern "C" fn uapubsub_set_text(
     alloc: Global,
     handle: &mut Handle,
-    set: u8,
-    field: u8,
+    set: u32,
+    field: u32,
     text: &[u8],
 ) -> u32
     requires { IsReady handle.old }
-    ensures answers { IsOneOf (BAD_TEXT ∷ CLOSED ∷ OK ∷ MISFIT ∷ INDEX ∷ OTHER_SIDE ∷ []) result }
-    ensures ready { IsReady handle.new }
-    ensures set { result ≡ OK → Leaves handle.old handle.new (HasTextIn set field text.now) }
-    ensures misfit { result ≡ MISFIT
-        → Tells handle.old (PublisherIs (IsTextMisfit set field text.now)) }
-    ensures there { result ≡ MISFIT → Tells handle.old (PublisherIs (SetsField set field)) }
-    ensures index { result ≡ INDEX → Tells handle.old (PublisherIs (SetsNoField set field)) }
-    ensures other_side { result ≡ OTHER_SIDE → Tells handle.old IsSubscriberSide }
-    ensures unset { result ≢ OK → StaysUnset handle.old handle.new }
-    ensures bad_text { result ≡ BAD_TEXT → IsErr (text_of text.now) }
-    ensures unread { result ≡ BAD_TEXT → handle.new ≡ handle.old }
-    ensures closed { result ≡ CLOSED → handle.old.is_open ≡ 0 }
-    ensures shut { result ≡ CLOSED → handle.new ≡ handle.old }
+    ensures { Calls (OfPublisher (SetsText set field text.now)) handle.old result handle.new }
+{
+    number_of(handle.publisher(alloc, |publisher| set_text(publisher, set, field, text)))
+}
+
+fn set_text(publisher: &mut Publisher, set: u32, field: u32, text: &[u8]) -> Result<(), Status>
+    requires { IsPublisher publisher.old }
+    ensures publisher { IsPublisher publisher.new }
+    ensures sets { SetsText set field text.now publisher.old result publisher.new }
 {
     match Text::from_bytes(text) {
-        Ok(text) => set_field(alloc, handle, set, field, &Value::String(text)),
-        Err(_) => BAD_TEXT,
+        Ok(text) => set_value(publisher, set, field, &Value::String(text)),
+        Err(_) => Err(Status::BadText),
     }
 }
 
@@ -114,28 +94,26 @@ pub extern "C" fn uapubsub_set_text(
 pub extern "C" fn uapubsub_set_bytes(
     alloc: Global,
     handle: &mut Handle,
-    set: u8,
-    field: u8,
+    set: u32,
+    field: u32,
     bytes: &[u8],
 ) -> u32
     requires { IsReady handle.old }
-    ensures answers { IsOneOf (BAD_TEXT ∷ CLOSED ∷ OK ∷ MISFIT ∷ INDEX ∷ OTHER_SIDE ∷ []) result }
-    ensures ready { IsReady handle.new }
-    ensures set { result ≡ OK → Leaves handle.old handle.new (HasBytesIn set field bytes.now) }
-    ensures misfit { result ≡ MISFIT
-        → Tells handle.old (PublisherIs (IsBytesMisfit set field bytes.now)) }
-    ensures there { result ≡ MISFIT → Tells handle.old (PublisherIs (SetsField set field)) }
-    ensures index { result ≡ INDEX → Tells handle.old (PublisherIs (SetsNoField set field)) }
-    ensures other_side { result ≡ OTHER_SIDE → Tells handle.old IsSubscriberSide }
-    ensures unset { result ≢ OK → StaysUnset handle.old handle.new }
-    ensures bad_text { result ≡ BAD_TEXT → IsErr (blob_of bytes.now) }
-    ensures unread { result ≡ BAD_TEXT → handle.new ≡ handle.old }
-    ensures closed { result ≡ CLOSED → handle.old.is_open ≡ 0 }
-    ensures shut { result ≡ CLOSED → handle.new ≡ handle.old }
+    ensures { Calls (OfPublisher (SetsBytes set field bytes.now)) handle.old result handle.new }
+{
+    number_of(handle.publisher(alloc, |publisher| {
+        set_bytes(publisher, set, field, bytes)
+    }))
+}
+
+fn set_bytes(publisher: &mut Publisher, set: u32, field: u32, bytes: &[u8]) -> Result<(), Status>
+    requires { IsPublisher publisher.old }
+    ensures publisher { IsPublisher publisher.new }
+    ensures sets { SetsBytes set field bytes.now publisher.old result publisher.new }
 {
     match Blob::from_bytes(bytes) {
-        Ok(blob) => set_field(alloc, handle, set, field, &Value::ByteString(blob)),
-        Err(_) => BAD_TEXT,
+        Ok(blob) => set_value(publisher, set, field, &Value::ByteString(blob)),
+        Err(_) => Err(Status::BadText),
     }
 }
 
@@ -144,25 +122,37 @@ pub extern "C" fn uapubsub_set_bytes(
 pub extern "C" fn uapubsub_set_guid(
     alloc: Global,
     handle: &mut Handle,
-    set: u8,
-    field: u8,
+    set: u32,
+    field: u32,
     guid: &GuidBytes,
 ) -> u32
     requires { IsReady handle.old }
-    ensures answers { IsOneOf (CLOSED ∷ OK ∷ MISFIT ∷ INDEX ∷ OTHER_SIDE ∷ []) result }
-    ensures ready { IsReady handle.new }
-    ensures set { result ≡ OK
-        → Leaves handle.old handle.new (HasSetIn set field (Value.Guid guid.now.bytes) 0) }
-    ensures misfit { result ≡ MISFIT
-        → Tells handle.old (PublisherIs (IsValueMisfit set field (Value.Guid guid.now.bytes))) }
-    ensures there { result ≡ MISFIT → Tells handle.old (PublisherIs (SetsField set field)) }
-    ensures index { result ≡ INDEX → Tells handle.old (PublisherIs (SetsNoField set field)) }
-    ensures other_side { result ≡ OTHER_SIDE → Tells handle.old IsSubscriberSide }
-    ensures unset { result ≢ OK → StaysUnset handle.old handle.new }
-    ensures closed { result ≡ CLOSED → handle.old.is_open ≡ 0 }
-    ensures shut { result ≡ CLOSED → handle.new ≡ handle.old }
+    ensures { Calls (OfPublisher (SetsValue set field (Value.Guid guid.now.bytes)))
+        handle.old result handle.new }
 {
-    set_field(alloc, handle, set, field, &Value::Guid(guid.bytes))
+    let value = Value::Guid(guid.bytes);
+    number_of(handle.publisher(alloc, |publisher| {
+        set_value(publisher, set, field, &value)
+    }))
+}
+
+/// Sets a field to this value, Good.
+fn set_value(publisher: &mut Publisher, set: u32, field: u32, value: &Value) -> Result<(), Status>
+    requires { IsPublisher publisher.old }
+    ensures publisher { IsPublisher publisher.new }
+    ensures sets { SetsValue set field value.now publisher.old result publisher.new }
+{
+    let Some((set, field)) = two_indexes(set, field) else {
+        return Err(Status::Index);
+    };
+    if !publisher.has_field(set, field) {
+        return Err(Status::Index);
+    }
+    if publisher.set(set, field, value, GOOD) {
+        Ok(())
+    } else {
+        Err(Status::Misfit)
+    }
 }
 
 /// Sets the status of a field, and leaves its value. Where the data set has no quality a field has none but Good, which is 0.
@@ -170,103 +160,32 @@ pub extern "C" fn uapubsub_set_guid(
 pub extern "C" fn uapubsub_set_field_status(
     alloc: Global,
     handle: &mut Handle,
-    set: u8,
-    field: u8,
+    set: u32,
+    field: u32,
     status: u32,
 ) -> u32
     requires { IsReady handle.old }
-    ensures answers { IsOneOf (CLOSED ∷ OK ∷ MISFIT ∷ INDEX ∷ OTHER_SIDE ∷ []) result }
-    ensures ready { IsReady handle.new }
-    ensures set { result ≡ OK
-        → Leaves handle.old handle.new (PublisherMoves (HasSetStatus set field status)) }
-    ensures misfit { result ≡ MISFIT
-        → Tells handle.old (PublisherIs (IsCodeMisfit set field status)) }
-    ensures there { result ≡ MISFIT → Tells handle.old (PublisherIs (SetsField set field)) }
-    ensures index { result ≡ INDEX → Tells handle.old (PublisherIs (SetsNoField set field)) }
-    ensures other_side { result ≡ OTHER_SIDE → Tells handle.old IsSubscriberSide }
-    ensures unset { result ≢ OK → StaysUnset handle.old handle.new }
-    ensures closed { result ≡ CLOSED → handle.old.is_open ≡ 0 }
-    ensures shut { result ≡ CLOSED → handle.new ≡ handle.old }
+    ensures { Calls (OfPublisher (SetsStatus set field status)) handle.old result handle.new }
 {
-    let Some(mut kept) = handle.take(alloc) else {
-        return CLOSED;
-    };
-    let answer = set_status_in(&mut kept, set, field, status);
-    handle.put(kept);
-    answer
+    number_of(handle.publisher(alloc, |publisher| {
+        set_status(publisher, set, field, status)
+    }))
 }
 
-fn set_status_in(kept: &mut Kept, set: u8, field: u8, status: u32) -> u32
-    requires { IsSound kept.old }
-    ensures answers { IsOneOf (OK ∷ MISFIT ∷ INDEX ∷ OTHER_SIDE ∷ []) result }
-    ensures sound { IsSound kept.new }
-    ensures set { result ≡ OK → PublisherMoves (HasSetStatus set field status) kept.old kept.new }
-    ensures misfit { result ≡ MISFIT → PublisherIs (IsCodeMisfit set field status) kept.old }
-    ensures there { result ≡ MISFIT → PublisherIs (SetsField set field) kept.old }
-    ensures index { result ≡ INDEX → PublisherIs (SetsNoField set field) kept.old }
-    ensures other_side { result ≡ OTHER_SIDE → IsSubscriberSide kept.old }
-    ensures unset { result ≢ OK → IsUnset kept.old kept.new }
-    ensures not_closed { result ≢ CLOSED }
+fn set_status(publisher: &mut Publisher, set: u32, field: u32, status: u32) -> Result<(), Status>
+    requires { IsPublisher publisher.old }
+    ensures publisher { IsPublisher publisher.new }
+    ensures sets { SetsStatus set field status publisher.old result publisher.new }
 {
-    let Kept::Publisher(publisher) = kept else {
-        return OTHER_SIDE;
+    let Some((set, field)) = two_indexes(set, field) else {
+        return Err(Status::Index);
     };
+    if !publisher.has_field(set, field) {
+        return Err(Status::Index);
+    }
     if publisher.set_status(set, field, status) {
-        return OK;
-    }
-    if publisher.has_field(set, field) {
-        MISFIT
+        Ok(())
     } else {
-        INDEX
-    }
-}
-
-/// Sets a field of the handle's publisher, Good.
-fn set_field(alloc: Global, handle: &mut Handle, set: u8, field: u8, value: &Value) -> u32
-    requires { IsReady handle.old }
-    ensures answers { IsOneOf (CLOSED ∷ OK ∷ MISFIT ∷ INDEX ∷ OTHER_SIDE ∷ []) result }
-    ensures ready { IsReady handle.new }
-    ensures set { result ≡ OK → Leaves handle.old handle.new (HasSetIn set field value.now 0) }
-    ensures misfit { result ≡ MISFIT
-        → Tells handle.old (PublisherIs (IsValueMisfit set field value.now)) }
-    ensures there { result ≡ MISFIT → Tells handle.old (PublisherIs (SetsField set field)) }
-    ensures index { result ≡ INDEX → Tells handle.old (PublisherIs (SetsNoField set field)) }
-    ensures other_side { result ≡ OTHER_SIDE → Tells handle.old IsSubscriberSide }
-    ensures unset { result ≢ OK → StaysUnset handle.old handle.new }
-    ensures not_text { result ≢ BAD_TEXT }
-    ensures closed { result ≡ CLOSED → handle.old.is_open ≡ 0 }
-    ensures shut { result ≡ CLOSED → handle.new ≡ handle.old }
-{
-    let Some(mut kept) = handle.take(alloc) else {
-        return CLOSED;
-    };
-    let answer = set_in(&mut kept, set, field, value);
-    handle.put(kept);
-    answer
-}
-
-fn set_in(kept: &mut Kept, set: u8, field: u8, value: &Value) -> u32
-    requires { IsSound kept.old }
-    ensures answers { IsOneOf (OK ∷ MISFIT ∷ INDEX ∷ OTHER_SIDE ∷ []) result }
-    ensures sound { IsSound kept.new }
-    ensures set { result ≡ OK → HasSetIn set field value.now 0 kept.old kept.new }
-    ensures misfit { result ≡ MISFIT → PublisherIs (IsValueMisfit set field value.now) kept.old }
-    ensures there { result ≡ MISFIT → PublisherIs (SetsField set field) kept.old }
-    ensures index { result ≡ INDEX → PublisherIs (SetsNoField set field) kept.old }
-    ensures other_side { result ≡ OTHER_SIDE → IsSubscriberSide kept.old }
-    ensures unset { result ≢ OK → IsUnset kept.old kept.new }
-    ensures not_text { result ≢ BAD_TEXT }
-    ensures not_closed { result ≢ CLOSED }
-{
-    let Kept::Publisher(publisher) = kept else {
-        return OTHER_SIDE;
-    };
-    if publisher.set(set, field, value, GOOD) {
-        return OK;
-    }
-    if publisher.has_field(set, field) {
-        MISFIT
-    } else {
-        INDEX
+        Err(Status::Misfit)
     }
 }

@@ -1,13 +1,14 @@
 //! Writers and readers that are switched on and off.
-ghost use Rattle.std.specs.Prelude.{◌≡◌, ◌≢◌, [], ◌∷◌, true, false};
-ghost use Rattle.device_sides.specs.Readings.{HasReaderSwitched, IsNoReader};
-ghost use Rattle.device_sides.specs.Sides.{HasNoWriter, HasWriterSwitched};
-ghost use Rattle.uapubsub_c.specs.Getting.{IsPublisherSide, IsSubscriberSide, PublisherIs, PublisherMoves, SubscriberIs, SubscriberMoves};
-ghost use Rattle.uapubsub_c.specs.Handles.{IsOneOf, IsReady, IsSound, Leaves, Stays, Tells};
+ghost use Rattle.std.specs.Prelude.{◌≡◌, true, false};
+ghost use Rattle.device_sides.specs.Sides.{IsPublisher, IsSubscriber};
+ghost use Rattle.uapubsub_c.specs.Answers.{Calls, OfPublisher, OfSubscriber};
+ghost use Rattle.uapubsub_c.specs.Handles.{IsReady};
+ghost use Rattle.uapubsub_c.specs.Switching.{SwitchesReader, SwitchesWriter};
 
 use crate::handle::Handle;
-use crate::kept::Kept;
-use crate::status::{CLOSED, INDEX, OK, OTHER_SIDE};
+use crate::indexes::two_indexes;
+use crate::status::{Status, number_of};
+use device_sides::{Publisher, Subscriber};
 use std::alloc::Global;
 
 /// The writer with this index in the group with this index sends from now on, a key frame first (OPC 10000-14 6.2.1, Enable).
@@ -15,21 +16,15 @@ use std::alloc::Global;
 pub extern "C" fn uapubsub_writer_enable(
     alloc: Global,
     handle: &mut Handle,
-    group: u8,
-    writer: u8,
+    group: u32,
+    writer: u32,
 ) -> u32
     requires { IsReady handle.old }
-    ensures answers { IsOneOf (CLOSED ∷ OK ∷ INDEX ∷ OTHER_SIDE ∷ []) result }
-    ensures ready { IsReady handle.new }
-    ensures switched { result ≡ OK
-        → Leaves handle.old handle.new (PublisherMoves (HasWriterSwitched group writer true)) }
-    ensures index { result ≡ INDEX → Tells handle.old (PublisherIs (HasNoWriter group writer)) }
-    ensures other_side { result ≡ OTHER_SIDE → Tells handle.old IsSubscriberSide }
-    ensures not { result ≢ OK → Stays handle.old handle.new }
-    ensures closed { result ≡ CLOSED → handle.old.is_open ≡ 0 }
-    ensures shut { result ≡ CLOSED → handle.new ≡ handle.old }
+    ensures { Calls (OfPublisher (SwitchesWriter group writer true)) handle.old result handle.new }
 {
-    switch_writer(alloc, handle, group, writer, true)
+    number_of(handle.publisher(alloc, |publisher| {
+        switch_writer(publisher, group, writer, true)
+    }))
 }
 
 /// The writer with this index in the group with this index sends nothing from now on (OPC 10000-14 6.2.1, Disable).
@@ -37,61 +32,29 @@ pub extern "C" fn uapubsub_writer_enable(
 pub extern "C" fn uapubsub_writer_disable(
     alloc: Global,
     handle: &mut Handle,
-    group: u8,
-    writer: u8,
+    group: u32,
+    writer: u32,
 ) -> u32
     requires { IsReady handle.old }
-    ensures answers { IsOneOf (CLOSED ∷ OK ∷ INDEX ∷ OTHER_SIDE ∷ []) result }
-    ensures ready { IsReady handle.new }
-    ensures switched { result ≡ OK
-        → Leaves handle.old handle.new (PublisherMoves (HasWriterSwitched group writer false)) }
-    ensures index { result ≡ INDEX → Tells handle.old (PublisherIs (HasNoWriter group writer)) }
-    ensures other_side { result ≡ OTHER_SIDE → Tells handle.old IsSubscriberSide }
-    ensures not { result ≢ OK → Stays handle.old handle.new }
-    ensures closed { result ≡ CLOSED → handle.old.is_open ≡ 0 }
-    ensures shut { result ≡ CLOSED → handle.new ≡ handle.old }
+    ensures { Calls (OfPublisher (SwitchesWriter group writer false)) handle.old result handle.new }
 {
-    switch_writer(alloc, handle, group, writer, false)
+    number_of(handle.publisher(alloc, |publisher| {
+        switch_writer(publisher, group, writer, false)
+    }))
 }
 
-fn switch_writer(alloc: Global, handle: &mut Handle, group: u8, writer: u8, on: bool) -> u32
-    requires { IsReady handle.old }
-    ensures answers { IsOneOf (CLOSED ∷ OK ∷ INDEX ∷ OTHER_SIDE ∷ []) result }
-    ensures ready { IsReady handle.new }
-    ensures switched { result ≡ OK
-        → Leaves handle.old handle.new (PublisherMoves (HasWriterSwitched group writer on)) }
-    ensures index { result ≡ INDEX → Tells handle.old (PublisherIs (HasNoWriter group writer)) }
-    ensures other_side { result ≡ OTHER_SIDE → Tells handle.old IsSubscriberSide }
-    ensures not { result ≢ OK → Stays handle.old handle.new }
-    ensures closed { result ≡ CLOSED → handle.old.is_open ≡ 0 }
-    ensures shut { result ≡ CLOSED → handle.new ≡ handle.old }
+fn switch_writer(publisher: &mut Publisher, group: u32, writer: u32, on: bool) -> Result<(), Status>
+    requires { IsPublisher publisher.old }
+    ensures publisher { IsPublisher publisher.new }
+    ensures switches { SwitchesWriter group writer on publisher.old result publisher.new }
 {
-    let Some(mut kept) = handle.take(alloc) else {
-        return CLOSED;
-    };
-    let status = switch_writer_in(&mut kept, group, writer, on);
-    handle.put(kept);
-    status
-}
-
-fn switch_writer_in(kept: &mut Kept, group: u8, writer: u8, on: bool) -> u32
-    requires { IsSound kept.old }
-    ensures answers { IsOneOf (OK ∷ INDEX ∷ OTHER_SIDE ∷ []) result }
-    ensures sound { IsSound kept.new }
-    ensures switched { result ≡ OK
-        → PublisherMoves (HasWriterSwitched group writer on) kept.old kept.new }
-    ensures index { result ≡ INDEX → PublisherIs (HasNoWriter group writer) kept.old }
-    ensures other_side { result ≡ OTHER_SIDE → IsSubscriberSide kept.old }
-    ensures not { result ≢ OK → kept.new ≡ kept.old }
-    ensures not_closed { result ≢ CLOSED }
-{
-    let Kept::Publisher(publisher) = kept else {
-        return OTHER_SIDE;
+    let Some((group, writer)) = two_indexes(group, writer) else {
+        return Err(Status::Index);
     };
     if publisher.switch(group, writer, on) {
-        OK
+        Ok(())
     } else {
-        INDEX
+        Err(Status::Index)
     }
 }
 
@@ -100,21 +63,15 @@ fn switch_writer_in(kept: &mut Kept, group: u8, writer: u8, on: bool) -> u32
 pub extern "C" fn uapubsub_reader_enable(
     alloc: Global,
     handle: &mut Handle,
-    group: u8,
-    reader: u8,
+    group: u32,
+    reader: u32,
 ) -> u32
     requires { IsReady handle.old }
-    ensures answers { IsOneOf (CLOSED ∷ OK ∷ INDEX ∷ OTHER_SIDE ∷ []) result }
-    ensures ready { IsReady handle.new }
-    ensures switched { result ≡ OK
-        → Leaves handle.old handle.new (SubscriberMoves (HasReaderSwitched group reader true)) }
-    ensures index { result ≡ INDEX → Tells handle.old (SubscriberIs (IsNoReader group reader)) }
-    ensures other_side { result ≡ OTHER_SIDE → Tells handle.old IsPublisherSide }
-    ensures not { result ≢ OK → Stays handle.old handle.new }
-    ensures closed { result ≡ CLOSED → handle.old.is_open ≡ 0 }
-    ensures shut { result ≡ CLOSED → handle.new ≡ handle.old }
+    ensures { Calls (OfSubscriber (SwitchesReader group reader true)) handle.old result handle.new }
 {
-    switch_reader(alloc, handle, group, reader, true)
+    number_of(handle.subscriber(alloc, |subscriber| {
+        switch_reader(subscriber, group, reader, true)
+    }))
 }
 
 /// The reader with this index in the read group with this index lets its row go, and is given nothing from now on.
@@ -122,60 +79,33 @@ pub extern "C" fn uapubsub_reader_enable(
 pub extern "C" fn uapubsub_reader_disable(
     alloc: Global,
     handle: &mut Handle,
-    group: u8,
-    reader: u8,
+    group: u32,
+    reader: u32,
 ) -> u32
     requires { IsReady handle.old }
-    ensures answers { IsOneOf (CLOSED ∷ OK ∷ INDEX ∷ OTHER_SIDE ∷ []) result }
-    ensures ready { IsReady handle.new }
-    ensures switched { result ≡ OK
-        → Leaves handle.old handle.new (SubscriberMoves (HasReaderSwitched group reader false)) }
-    ensures index { result ≡ INDEX → Tells handle.old (SubscriberIs (IsNoReader group reader)) }
-    ensures other_side { result ≡ OTHER_SIDE → Tells handle.old IsPublisherSide }
-    ensures not { result ≢ OK → Stays handle.old handle.new }
-    ensures closed { result ≡ CLOSED → handle.old.is_open ≡ 0 }
-    ensures shut { result ≡ CLOSED → handle.new ≡ handle.old }
+    ensures { Calls (OfSubscriber (SwitchesReader group reader false)) handle.old result handle.new }
 {
-    switch_reader(alloc, handle, group, reader, false)
+    number_of(handle.subscriber(alloc, |subscriber| {
+        switch_reader(subscriber, group, reader, false)
+    }))
 }
 
-fn switch_reader(alloc: Global, handle: &mut Handle, group: u8, reader: u8, on: bool) -> u32
-    requires { IsReady handle.old }
-    ensures answers { IsOneOf (CLOSED ∷ OK ∷ INDEX ∷ OTHER_SIDE ∷ []) result }
-    ensures ready { IsReady handle.new }
-    ensures switched { result ≡ OK
-        → Leaves handle.old handle.new (SubscriberMoves (HasReaderSwitched group reader on)) }
-    ensures index { result ≡ INDEX → Tells handle.old (SubscriberIs (IsNoReader group reader)) }
-    ensures other_side { result ≡ OTHER_SIDE → Tells handle.old IsPublisherSide }
-    ensures not { result ≢ OK → Stays handle.old handle.new }
-    ensures closed { result ≡ CLOSED → handle.old.is_open ≡ 0 }
-    ensures shut { result ≡ CLOSED → handle.new ≡ handle.old }
+fn switch_reader(
+    subscriber: &mut Subscriber,
+    group: u32,
+    reader: u32,
+    on: bool,
+) -> Result<(), Status>
+    requires { IsSubscriber subscriber.old }
+    ensures subscriber { IsSubscriber subscriber.new }
+    ensures switches { SwitchesReader group reader on subscriber.old result subscriber.new }
 {
-    let Some(mut kept) = handle.take(alloc) else {
-        return CLOSED;
-    };
-    let status = switch_reader_in(&mut kept, group, reader, on);
-    handle.put(kept);
-    status
-}
-
-fn switch_reader_in(kept: &mut Kept, group: u8, reader: u8, on: bool) -> u32
-    requires { IsSound kept.old }
-    ensures answers { IsOneOf (OK ∷ INDEX ∷ OTHER_SIDE ∷ []) result }
-    ensures sound { IsSound kept.new }
-    ensures switched { result ≡ OK
-        → SubscriberMoves (HasReaderSwitched group reader on) kept.old kept.new }
-    ensures index { result ≡ INDEX → SubscriberIs (IsNoReader group reader) kept.old }
-    ensures other_side { result ≡ OTHER_SIDE → IsPublisherSide kept.old }
-    ensures not { result ≢ OK → kept.new ≡ kept.old }
-    ensures not_closed { result ≢ CLOSED }
-{
-    let Kept::Subscriber(subscriber) = kept else {
-        return OTHER_SIDE;
+    let Some((group, reader)) = two_indexes(group, reader) else {
+        return Err(Status::Index);
     };
     if subscriber.switch(group, reader, on) {
-        OK
+        Ok(())
     } else {
-        INDEX
+        Err(Status::Index)
     }
 }

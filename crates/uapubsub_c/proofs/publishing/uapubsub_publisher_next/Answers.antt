@@ -1,64 +1,23 @@
-use Rattle.std.proofs.Common.{subst}
-use Rattle.device_sides.specs.Coming.{ComesTo}
-use Rattle.device_sides.specs.declared.asked.Next.TheVariants.{Datagram, Nothing, Spent}
+use Rattle.std.proofs.Common.{Err, subst}
+use Rattle.uapubsub_c.specs.Answers.{OfPublisher}
+use Rattle.uapubsub_c.specs.Nexts.{ComesNext}
 use Rattle.uapubsub_c.specs.declared.kept.Kept.{Kept}
-use Rattle.uapubsub_c.specs.Getting.{IsSubscriberSide, PublisherMoves}
-use Rattle.uapubsub_c.specs.Nexts.{HandsNext}
+use Rattle.uapubsub_c.specs.declared.status.Status.TheVariants.{Closed}
+use Rattle.uapubsub_c.proofs.Answering.{answered, answered-closed}
 use Rattle.uapubsub_c.proofs.publishing.uapubsub_publisher_next.Goals as goal
 
-pub returns-clause-laid : goal.returns-clause-laid
-returns-clause-laid c = λ ok. record {
-  kept = c.next_of-status.new.kept;
-  holds = c.put.ensures.held;
-  is = c.next_of-status.ensures.laid ok;
-}
+pub returns-in_default-clause-comes : goal.returns-in_default-clause-comes
+returns-in_default-clause-comes c =
+    let closed =
+    answered-closed (OfPublisher (ComesNext c.args.now c.args.buffer.now c.args.buffer.now 0)) c.args.handle.now c.take.new.self
+    c.in_default.ensures.ready c.in_default.ensures.was_closed c.in_default.ensures.none in
+    record { answer = Err Closed; is = closed; number_is = c.number.ensures }
 
-pub returns-clause-came : goal.returns-clause-came
-returns-clause-came c = λ is. record {
-  was = c.in-Some.kept.value;
-  is = c.next_of-status.new.kept;
-  held = c.in-Some.ensures.held;
-  holds = c.put.ensures.held;
-  moved = subst (λ (kept : Kept). PublisherMoves (HandsNext c.args.now) kept c.next_of-status.new.kept) c.deref_mut.ensures.value (c.next_of-status.ensures.came is);
-}
-
-pub returns-clause-none : goal.returns-clause-none
-returns-clause-none c = λ is. record {
-  was = c.in-Some.kept.value;
-  is = c.next_of-status.new.kept;
-  held = c.in-Some.ensures.held;
-  holds = c.put.ensures.held;
-  moved = subst (λ (kept : Kept). PublisherMoves (ComesTo c.args.now Nothing) kept c.next_of-status.new.kept) c.deref_mut.ensures.value (c.next_of-status.ensures.none is);
-}
-
-pub returns-clause-spent : goal.returns-clause-spent
-returns-clause-spent c = λ is. record {
-  was = c.in-Some.kept.value;
-  is = c.next_of-status.new.kept;
-  held = c.in-Some.ensures.held;
-  holds = c.put.ensures.held;
-  moved = subst (λ (kept : Kept). PublisherMoves (ComesTo c.args.now Spent) kept c.next_of-status.new.kept) c.deref_mut.ensures.value (c.next_of-status.ensures.spent is);
-}
-
-pub returns-clause-waits : goal.returns-clause-waits
-returns-clause-waits c = λ is. record {
-  was = c.in-Some.kept.value;
-  is = c.next_of-status.new.kept;
-  held = c.in-Some.ensures.held;
-  holds = c.put.ensures.held;
-  moved = subst (λ (kept : Kept). PublisherMoves (ComesTo c.args.now Datagram) kept c.next_of-status.new.kept) c.deref_mut.ensures.value (c.next_of-status.ensures.waits is);
-}
-
-pub returns-clause-other_side : goal.returns-clause-other_side
-returns-clause-other_side c = λ is. record {
-  kept = c.in-Some.kept.value;
-  holds = c.in-Some.ensures.held;
-  is = subst (λ (kept : Kept). IsSubscriberSide kept) c.deref_mut.ensures.value (c.next_of-status.ensures.other_side is);
-}
-
-pub returns-clause-needs : goal.returns-clause-needs
-returns-clause-needs c = λ is. record {
-  kept = c.next_of-status.new.kept;
-  holds = c.put.ensures.held;
-  is = c.next_of-status.ensures.needs is;
-}
+pub returns-clause-comes : goal.returns-clause-comes
+returns-clause-comes c =
+    let moves = OfPublisher (ComesNext c.args.now c.args.buffer.now c.next_of-answer.new.buffer c.next_of-answer.new.count) in
+    let moved = subst (λ (kept : Kept). moves kept c.next_of-answer.result c.next_of-answer.new.kept) c.deref_mut.ensures.value c.next_of-answer.ensures.comes in
+    let told =
+    answered moves c.args.handle.now c.put.new.self c.in-Some.kept.value c.next_of-answer.new.kept c.next_of-answer.result
+    c.in-Some.ensures.held c.put.ensures.ready c.put.ensures.held moved in
+    record { answer = c.next_of-answer.result; is = told; number_is = c.number_of.ensures }

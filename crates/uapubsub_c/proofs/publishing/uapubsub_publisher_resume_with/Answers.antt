@@ -1,37 +1,12 @@
-use Rattle.std.proofs.Common.{subst}
-use Rattle.uapubsub_c.specs.declared.kept.Kept.{Kept}
-use Rattle.uapubsub_c.specs.Getting.{IsSubscriberSide, PublisherIs, PublisherMoves}
-use Rattle.uapubsub_c.specs.Keys.{HasNoKeyGroup, IsBehindWith, MayNotResumeWith}
+use Rattle.std.proofs.Common.{of_calls}
+use Rattle.uapubsub_c.specs.Keys.{ResumesWith}
+use Rattle.uapubsub_c.proofs.Answering.{calls-publisher}
 use Rattle.uapubsub_c.proofs.publishing.uapubsub_publisher_resume_with.Goals as goal
 
-pub returns-clause-behind : goal.returns-clause-behind
-returns-clause-behind c = λ ok. record {
-  was = c.in-Some.kept.value;
-  is = c.resume_with_in-status.new.kept;
-  held = c.in-Some.ensures.held;
-  holds = c.put.ensures.held;
-  moved = subst (λ (kept : Kept). PublisherMoves (IsBehindWith c.args.keygroup c.args.now c.args.token c.args.used c.args.sets.now) kept c.resume_with_in-status.new.kept)
-      c.deref_mut.ensures.value (c.resume_with_in-status.ensures.behind ok);
-}
+pub publisher-requires-clause-moving : goal.publisher-requires-clause-moving
+publisher-requires-clause-moving c = record { callable = λ shown sound. search of_calls; leaves = λ old answer new sound moved. search of_calls }
 
-pub returns-clause-bad_keys : goal.returns-clause-bad_keys
-returns-clause-bad_keys c = λ bad. record {
-  kept = c.in-Some.kept.value;
-  holds = c.in-Some.ensures.held;
-  is = subst (λ (kept : Kept). PublisherIs (MayNotResumeWith c.args.keygroup c.args.now c.args.token c.args.used c.args.sets.now) kept) c.deref_mut.ensures.value
-      (c.resume_with_in-status.ensures.bad_keys bad);
-}
-
-pub returns-clause-index : goal.returns-clause-index
-returns-clause-index c = λ is. record {
-  kept = c.in-Some.kept.value;
-  holds = c.in-Some.ensures.held;
-  is = subst (λ (kept : Kept). PublisherIs (HasNoKeyGroup c.args.keygroup) kept) c.deref_mut.ensures.value (c.resume_with_in-status.ensures.index is);
-}
-
-pub returns-clause-other_side : goal.returns-clause-other_side
-returns-clause-other_side c = λ is. record {
-  kept = c.in-Some.kept.value;
-  holds = c.in-Some.ensures.held;
-  is = subst (λ (kept : Kept). IsSubscriberSide kept) c.deref_mut.ensures.value (c.resume_with_in-status.ensures.other_side is);
-}
+pub returns : goal.returns
+returns c =
+    calls-publisher _ (ResumesWith c.args.keygroup c.args.now c.args.token c.args.used c.args.sets.now) (λ old answer new moved. search of_calls) c.args.handle.now c.publisher.result c.number_of.result c.publisher.new.self
+    c.publisher.ensures c.number_of.ensures

@@ -1,28 +1,12 @@
-use Rattle.std.proofs.Common.{subst}
-use Rattle.uapubsub_c.specs.declared.kept.Kept.{Kept}
-use Rattle.uapubsub_c.specs.Handles.{StandsIn}
-use Rattle.uapubsub_c.specs.Getting.{IsSubscriberSide, PublisherIs}
-use Rattle.uapubsub_c.specs.Keys.{HasNoKeyGroup}
+use Rattle.std.proofs.Common.{of_calls}
+use Rattle.uapubsub_c.specs.Keys.{TellsStanding}
+use Rattle.uapubsub_c.proofs.Answering.{asks-publisher}
 use Rattle.uapubsub_c.proofs.publishing.uapubsub_publisher_standing.Goals as goal
 
-pub returns-clause-stands : goal.returns-clause-stands
-returns-clause-stands c = λ ok. record {
-  kept = c.in-Some.kept.value;
-  holds = c.in-Some.ensures.held;
-  is = subst (λ (kept : Kept). StandsIn c.args.keygroup c.standing_of-status.new.token c.standing_of-status.new.used kept)
-      c.deref.ensures (c.standing_of-status.ensures.stands ok);
-}
+pub ask_publisher-answer-requires-clause-question : goal.ask_publisher-answer-requires-clause-question
+ask_publisher-answer-requires-clause-question c = record { callable = λ shown sound. search of_calls }
 
-pub returns-clause-index : goal.returns-clause-index
-returns-clause-index c = λ is. record {
-  kept = c.in-Some.kept.value;
-  holds = c.in-Some.ensures.held;
-  is = subst (λ (kept : Kept). PublisherIs (HasNoKeyGroup c.args.keygroup) kept) c.deref.ensures (c.standing_of-status.ensures.index is);
-}
-
-pub returns-clause-other_side : goal.returns-clause-other_side
-returns-clause-other_side c = λ is. record {
-  kept = c.in-Some.kept.value;
-  holds = c.in-Some.ensures.held;
-  is = subst (λ (kept : Kept). IsSubscriberSide kept) c.deref.ensures (c.standing_of-status.ensures.other_side is);
-}
+pub returns : goal.returns
+returns c =
+    asks-publisher _ (TellsStanding c.args.keygroup) (λ asked answer told. search of_calls) c.args.handle.now c.ask_publisher-answer.result c.tell_standing.result (c.args.token.now, c.args.used.now) (c.tell_standing.new.token, c.tell_standing.new.used)
+    c.ask_publisher-answer.new.self c.ask_publisher-answer.ensures c.tell_standing.ensures.number c.tell_standing.ensures.told c.tell_standing.ensures.untold

@@ -1,57 +1,12 @@
-use Rattle.std.proofs.Common.{subst, sym, ◌∙◌}
-use Rattle.uapubsub_c.specs.declared.kept.Kept.{Kept}
-use Rattle.device_sides.specs.Sides.{HasSetStatus}
-use Rattle.uapubsub_c.specs.Getting.{IsSubscriberSide, PublisherIs, PublisherMoves}
-use Rattle.uapubsub_c.specs.Setting.{IsCodeMisfit, SetsField, SetsNoField}
-use Rattle.uapubsub_c.specs.Handles.{IsUnset}
-use Rattle.std.proofs.lemmas.Option.{same_Some}
+use Rattle.std.proofs.Common.{of_calls}
+use Rattle.uapubsub_c.specs.Setting.{SetsStatus}
+use Rattle.uapubsub_c.proofs.Answering.{calls-publisher}
 use Rattle.uapubsub_c.proofs.setting.uapubsub_set_field_status.Goals as goal
 
-pub returns-clause-set : goal.returns-clause-set
-returns-clause-set c = λ ok. record {
-  was = c.in-Some.kept.value;
-  is = c.set_status_in-answer.new.kept;
-  held = c.in-Some.ensures.held;
-  holds = c.put.ensures.held;
-  moved = subst (λ (kept : Kept). PublisherMoves (HasSetStatus c.args.set c.args.field c.args.status) kept c.set_status_in-answer.new.kept)
-      c.deref_mut.ensures.value (c.set_status_in-answer.ensures.set ok);
-}
+pub publisher-requires-clause-moving : goal.publisher-requires-clause-moving
+publisher-requires-clause-moving c = record { callable = λ shown sound. search of_calls; leaves = λ old answer new sound moved. search of_calls }
 
-pub returns-clause-misfit : goal.returns-clause-misfit
-returns-clause-misfit c = λ is. record {
-  kept = c.in-Some.kept.value;
-  holds = c.in-Some.ensures.held;
-  is = subst (λ (kept : Kept). PublisherIs (IsCodeMisfit c.args.set c.args.field c.args.status) kept) c.deref_mut.ensures.value (c.set_status_in-answer.ensures.misfit is);
-}
-
-pub returns-clause-index : goal.returns-clause-index
-returns-clause-index c = λ is. record {
-  kept = c.in-Some.kept.value;
-  holds = c.in-Some.ensures.held;
-  is = subst (λ (kept : Kept). PublisherIs (SetsNoField c.args.set c.args.field) kept) c.deref_mut.ensures.value (c.set_status_in-answer.ensures.index is);
-}
-
-pub returns-clause-other_side : goal.returns-clause-other_side
-returns-clause-other_side c = λ is. record {
-  kept = c.in-Some.kept.value;
-  holds = c.in-Some.ensures.held;
-  is = subst (λ (kept : Kept). IsSubscriberSide kept) c.deref_mut.ensures.value (c.set_status_in-answer.ensures.other_side is);
-}
-
-pub returns-in_default-clause-unset : goal.returns-in_default-clause-unset
-returns-in_default-clause-unset c = λ not kept holds. absurd (holds.is_open c.in_default.ensures.was_closed)
-
-pub returns-clause-unset : goal.returns-clause-unset
-returns-clause-unset c = λ not kept holds. record {
-  kept = c.set_status_in-answer.new.kept;
-  holds = c.put.ensures.held;
-  is = subst (λ (was : Kept). IsUnset was c.set_status_in-answer.new.kept) (sym (same_Some kept c.in-Some.kept.value (sym holds.held ∙ c.in-Some.ensures.held.held)))
-      (subst (λ (was : Kept). IsUnset was c.set_status_in-answer.new.kept) c.deref_mut.ensures.value (c.set_status_in-answer.ensures.unset not));
-}
-
-pub returns-clause-there : goal.returns-clause-there
-returns-clause-there c = λ is. record {
-  kept = c.in-Some.kept.value;
-  holds = c.in-Some.ensures.held;
-  is = subst (λ (kept : Kept). PublisherIs (SetsField c.args.set c.args.field) kept) c.deref_mut.ensures.value (c.set_status_in-answer.ensures.there is);
-}
+pub returns : goal.returns
+returns c =
+    calls-publisher _ (SetsStatus c.args.set c.args.field c.args.status) (λ old answer new moved. search of_calls) c.args.handle.now c.publisher.result c.number_of.result c.publisher.new.self
+    c.publisher.ensures c.number_of.ensures

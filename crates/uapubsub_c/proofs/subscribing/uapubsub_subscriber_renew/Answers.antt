@@ -1,36 +1,12 @@
-use Rattle.std.proofs.Common.{subst}
-use Rattle.uapubsub_c.specs.declared.kept.Kept.{Kept}
-use Rattle.uapubsub_c.specs.Getting.{IsPublisherSide, SubscriberIs, SubscriberMoves}
-use Rattle.uapubsub_c.specs.Keys.{HasKeysRenewedTo, HasNoSecuredReadGroup, MakesNoRingRead}
+use Rattle.std.proofs.Common.{of_calls}
+use Rattle.uapubsub_c.specs.Keys.{RenewsRead}
+use Rattle.uapubsub_c.proofs.Answering.{calls-subscriber}
 use Rattle.uapubsub_c.proofs.subscribing.uapubsub_subscriber_renew.Goals as goal
 
-pub returns-clause-renewed : goal.returns-clause-renewed
-returns-clause-renewed c = λ ok. record {
-  was = c.in-Some.kept.value;
-  is = c.renew_in-status.new.kept;
-  held = c.in-Some.ensures.held;
-  holds = c.put.ensures.held;
-  moved = subst (λ (kept : Kept). SubscriberMoves (HasKeysRenewedTo c.args.group c.args.sets.now) kept c.renew_in-status.new.kept)
-      c.deref_mut.ensures.value (c.renew_in-status.ensures.renewed ok);
-}
+pub subscriber-requires-clause-moving : goal.subscriber-requires-clause-moving
+subscriber-requires-clause-moving c = record { callable = λ shown sound. search of_calls; leaves = λ old answer new sound moved. search of_calls }
 
-pub returns-clause-bad_keys : goal.returns-clause-bad_keys
-returns-clause-bad_keys c = λ bad. record {
-  kept = c.in-Some.kept.value;
-  holds = c.in-Some.ensures.held;
-  is = subst (λ (kept : Kept). SubscriberIs (MakesNoRingRead c.args.group c.args.sets.now) kept) c.deref_mut.ensures.value (c.renew_in-status.ensures.bad_keys bad);
-}
-
-pub returns-clause-index : goal.returns-clause-index
-returns-clause-index c = λ is. record {
-  kept = c.in-Some.kept.value;
-  holds = c.in-Some.ensures.held;
-  is = subst (λ (kept : Kept). SubscriberIs (HasNoSecuredReadGroup c.args.group) kept) c.deref_mut.ensures.value (c.renew_in-status.ensures.index is);
-}
-
-pub returns-clause-other_side : goal.returns-clause-other_side
-returns-clause-other_side c = λ is. record {
-  kept = c.in-Some.kept.value;
-  holds = c.in-Some.ensures.held;
-  is = subst (λ (kept : Kept). IsPublisherSide kept) c.deref_mut.ensures.value (c.renew_in-status.ensures.other_side is);
-}
+pub returns : goal.returns
+returns c =
+    calls-subscriber _ (RenewsRead c.args.group c.args.sets.now) (λ old answer new moved. search of_calls) c.args.handle.now c.subscriber.result c.number_of.result c.subscriber.new.self
+    c.subscriber.ensures c.number_of.ensures
