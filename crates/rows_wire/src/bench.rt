@@ -90,14 +90,11 @@ impl Bench {
         match call {
             "read_variant" => values::read_variant(alloc, line),
             "read_data_value" => values::read_data_value(alloc, line),
-            "prefixes_of_variant" => values::prefixes_of_variant(alloc, line),
-            "prefixes_of_data_value" => values::prefixes_of_data_value(alloc, line),
             "kinds" => values::kinds(alloc),
             "write_variant" => values::write_variant(alloc, line),
             "write_data_value" => values::write_data_value(alloc, line),
             "name" => metas::name(alloc, line),
             "meta" => metas::meta(alloc, line),
-            "told" => metas::told(alloc, line),
             "text" => values::text(alloc, line),
             "blob" => values::blob(alloc, line),
             "fits" => values::fits(alloc, line),
@@ -109,15 +106,11 @@ impl Bench {
             "write_sizes" => payloads::write_sizes(alloc, line),
             "read_frame"
             | "rewrite_frame"
-            | "prefixes_of_frame"
             | "raw_size"
             | "read_raw"
             | "read_raw_behind"
-            | "prefixes_of_raw"
             | "write_raw" => { of_data_set(alloc, call, line) }
             "slots" => slots::slots(alloc, line),
-            "take" => slots::take(alloc, line),
-            "place" => slots::place(alloc, line),
             "newer" => numbers::is_newer(alloc, line),
             "block128" => security::block128(alloc, line),
             "block256" => security::block256(alloc, line),
@@ -125,7 +118,6 @@ impl Bench {
             "stream256" => security::stream256(alloc, line),
             "hmac" => security::hmac(alloc, line),
             "ring" => security::ring(alloc, line),
-            "cut_message" => joiners::cut(alloc, line),
             "read_chunk" => joiners::read_chunk(alloc, line),
             "write_chunk" => joiners::write_chunk(alloc, line),
             call => self.kept(call, line),
@@ -178,11 +170,9 @@ fn of_data_set(alloc: Global, call: &str, line: &mut CaseLine) -> Answer {
     match call {
         "read_frame" => frames::read_frame(alloc, &meta, line),
         "rewrite_frame" => frames::rewrite_frame(alloc, &meta, line),
-        "prefixes_of_frame" => frames::prefixes_of_frame(alloc, &meta, line),
         "raw_size" => slots::raw_size(alloc, &meta),
         "read_raw" => slots::read_raw(alloc, &meta, line),
         "read_raw_behind" => slots::read_raw_behind(alloc, &meta, line),
-        "prefixes_of_raw" => slots::prefixes_of_raw(alloc, &meta, line),
         "write_raw" => slots::write_raw(alloc, &meta, line),
         _ => Err(LineFault::Call),
     }

@@ -5,7 +5,7 @@ ghost use Rattle.message_guard.specs.Modes.{is_secured};
 
 use crate::case_line::CaseLine;
 use crate::header_parts::Security;
-use crate::tries::made;
+use crate::told::{Told, two};
 use arrayvec::ArrayVec;
 use case_lines::{Answer, Digits, LineFault, refused, told, yes_or_no};
 use group_keys::{KeySet, Ring};
@@ -87,7 +87,11 @@ impl GuardRows {
             Some(sender) if !sender.spent() => {
                 let part = sender.front(mode);
                 let flags = if part.encrypted { "se" } else { "s" };
-                made(format!(in alloc; "{flags} {} {}", part.token, Digits(part.nonce)))
+                let mut told = Told::new(alloc);
+                told.say(flags);
+                told.named(" ", Some(part.token));
+                told.named(" ", Some(Digits(part.nonce)));
+                told.answer()
             }
             _ => Err(LineFault::Condition),
         }
@@ -129,10 +133,13 @@ impl GuardRows {
         let asked = Asked::read(alloc, line)?;
         match &self.guard {
             Some(guard) => match asked.test(guard) {
-                Ok(pass) => made(format!(in alloc;
-                    "pass {} {} {}",
-                    pass.token, pass.number, pass.end
-                )),
+                Ok(pass) => {
+                    let mut told = Told::new(alloc);
+                    told.named("pass ", Some(pass.token));
+                    told.named(" ", Some(pass.number));
+                    told.named(" ", Some(pass.end));
+                    told.answer()
+                }
                 Err(fault) => refused(alloc, &fault),
             },
             None => Err(LineFault::Condition),
@@ -148,7 +155,7 @@ impl GuardRows {
                     guard.decrypt(&pass, &mut asked.datagram, asked.payload);
                     let raised = if guard.accept(pass) { "raised" } else { "kept" };
                     let payload = &asked.datagram[asked.payload..pass.end];
-                    made(format!(in alloc; "{} {raised}", Digits(payload)))
+                    two(alloc, &Digits(payload), &raised)
                 }
                 Err(fault) => refused(alloc, &fault),
             },

@@ -1,31 +1,22 @@
 //! Rows of `chunker`.
 use crate::case_line::CaseLine;
-use crate::tries::{made, written};
-use case_lines::{Answer, Hex, LineFault, refused, said, yes_or_no};
-use chunker::{
-    ChunkPayload, Joined, Joiner, cut as cut_one, read_chunk as read_one, write_chunk as write_one,
-};
+use crate::told::{Told, two, written};
+use case_lines::{Answer, Hex, LineFault, refused, yes_or_no};
+use chunker::{ChunkPayload, Joined, Joiner, read_chunk as read_one, write_chunk as write_one};
 use std::alloc::Global;
 use ua_binary::Pen;
-
-/// `cut TOTAL ROOM K`: the chunk's offset and how many bytes it has
-pub fn cut(alloc: Global, line: &mut CaseLine) -> Answer {
-    let (total, room, k) = (line.u32(), line.u32(), line.u32());
-    if room == 0 || u64::from(k) * u64::from(room) >= u64::from(total) {
-        return Err(LineFault::Condition);
-    }
-    let (offset, len) = cut_one(total, room, k);
-    made(format!(in alloc; "{offset} {len}"))
-}
 
 /// `read_chunk BYTES`: number, offset, total and the data, or the fault
 pub fn read_chunk(alloc: Global, line: &mut CaseLine) -> Answer {
     let bytes = line.bytes(alloc);
     match read_one(&bytes) {
         Ok(chunk) => {
-            let (number, offset, total) = (chunk.number, chunk.offset, chunk.total);
-            let data = Hex(chunk.data);
-            made(format!(in alloc; "{number} {offset} {total} {data}"))
+            let mut told = Told::new(alloc);
+            told.word("", Some(chunk.number));
+            told.word("", Some(chunk.offset));
+            told.word("", Some(chunk.total));
+            told.word("", Some(Hex(chunk.data)));
+            told.answer()
         }
         Err(fault) => refused(alloc, &fault),
     }
@@ -84,19 +75,21 @@ impl JoinerRows {
     pub fn chunk(&mut self, alloc: Global, line: &mut CaseLine) -> Answer {
         let (number, offset, total) = (line.u16(), line.u32(), line.u32());
         let part = line.bytes(alloc);
+        let mut told = Told::new(alloc);
         match self.joiner.chunk(number, offset, total, &part) {
-            Joined::Whole(len) => made(format!(in alloc; "whole {len}")),
-            Joined::Part => said(alloc, "part"),
-            Joined::Older => said(alloc, "older"),
-            Joined::TooLong { total } => made(format!(in alloc; "toolong {total}")),
-            Joined::BadRange { offset, total } => two_told(alloc, "badrange", offset, total),
-            Joined::Differs { first, now } => two_told(alloc, "differs", first, now),
+            Joined::Whole(len) => told.named("whole ", Some(len)),
+            Joined::Part => told.say("part"),
+            Joined::Older => told.say("older"),
+            Joined::TooLong { total } => told.named("toolong ", Some(total)),
+            Joined::BadRange { offset, total } => tell_two(&mut told, "badrange ", offset, total),
+            Joined::Differs { first, now } => tell_two(&mut told, "differs ", first, now),
         }
+        told.answer()
     }
 
     /// `joined`: the bytes of the whole message
     pub fn joined(&self, alloc: Global) -> Answer {
-        made(format!(in alloc; "joined {}", Hex(self.joiner.bytes())))
+        two(alloc, &"joined", &Hex(self.joiner.bytes()))
     }
 
     /// `joined_is BYTES`: whether these are the bytes of the whole message
@@ -106,6 +99,7 @@ impl JoinerRows {
     }
 }
 
-fn two_told(alloc: Global, name: &str, first: u32, second: u32) -> Answer {
-    made(format!(in alloc; "{name} {first} {second}"))
+fn tell_two(told: &mut Told, name: &str, first: u32, second: u32) {
+    told.named(name, Some(first));
+    told.named(" ", Some(second));
 }

@@ -1,5 +1,5 @@
-//! Cases of the crates of the wire and of rows, one a line: a call and its arguments, which are rows and patches in words, what
-//! writers send and what readers hold, too (`row_calls`). Each line is printed again, with what the call answers behind ` -> `. Lines
+//! Cases of the crates of the wire and of rows, one a line: a call and its arguments, of what writers send and what readers hold,
+//! too (`row_calls`). Each line is printed again, with what the call answers behind ` -> `. Lines
 //! that begin with `#`, and empty ones, are printed as they are.
 #![tactic(auto)]
 
@@ -17,13 +17,12 @@ mod payloads;
 mod random;
 mod readers;
 mod row_calls;
-mod rows;
 mod security;
 mod senders;
 mod shown;
 mod slots;
 mod timers;
-mod tries;
+mod told;
 mod values;
 mod windows;
 mod writers;

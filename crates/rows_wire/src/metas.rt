@@ -1,11 +1,10 @@
 //! Rows of `dataset_meta`.
 use crate::case_line::CaseLine;
 use crate::fields::{meta_of, name_of};
-use crate::tries::made;
-use case_lines::{Answer, LineFault, kind_of, number, parted, refused, said, told as told_by};
+use crate::told::two;
+use case_lines::{Answer, LineFault, kind_of, number, parted, refused, said};
 use dataset_meta::{Field, Meta, Name32};
 use std::alloc::Global;
-use std::fmt;
 
 /// `name BYTES`: whether the bytes are a name of a data set or a field
 pub fn name(alloc: Global, line: &mut CaseLine) -> Answer {
@@ -20,37 +19,8 @@ pub fn name(alloc: Global, line: &mut CaseLine) -> Answer {
 pub fn meta(alloc: Global, line: &mut CaseLine) -> Answer {
     let fields = fields_of(alloc, line)?;
     match Meta::new(name_of("demo")?, fields, 1, 0, false) {
-        Ok(meta) => made(format!(in alloc; "{} words", meta.words())),
+        Ok(meta) => two(alloc, &meta.words(), &"words"),
         Err(fault) => refused(alloc, &fault),
-    }
-}
-
-/// `told MAJOR MINOR QUALITY FIELD ..`: what the meta tells
-pub fn told(alloc: Global, line: &mut CaseLine) -> Answer {
-    let (major, minor) = (line.u32(), line.u32());
-    let quality = line.word() == "true";
-    let meta = meta_of(fields_of(alloc, line)?, major, minor, quality)?;
-    told_by(alloc, &ShownMeta(&meta))
-}
-
-/// Its version, whether it has quality, and each field with where it begins and how many words it has.
-#[derive(Clone, Copy)]
-struct ShownMeta<'a>(&'a Meta);
-
-impl fmt::Display for ShownMeta<'_> {
-    fn fmt<W: fmt::Write>(&self, f: &mut fmt::Formatter<W>) -> fmt::Result {
-        let meta = self.0;
-        write!(f, "{} {} {}:", meta.major(), meta.minor(), meta.quality())?;
-        for (index, field) in meta.fields().iter().enumerate() {
-            let (name, at) = (field.name.as_str(), meta.start(index as u8));
-            write!(f, " {name}@{at}+{}", field.words())?;
-        }
-        write!(
-            f,
-            ", {} words of values, {} in all",
-            meta.value_words(),
-            meta.words()
-        )
     }
 }
 

@@ -1,13 +1,12 @@
 //! Rows of `payload_layout`.
 use crate::case_line::CaseLine;
-use crate::tries::written;
+use crate::told::{Told, written};
 use arrayvec::ArrayVec;
 use case_lines::{Answer, LineFault, number, said};
 use payload_layout::{
     Packs, Parts, plan as plan_packs, split as split_parts, write_sizes as write_list,
 };
 use std::alloc::Global;
-use std::fmt::Write;
 use ua_binary::Pen;
 
 /// `plan ROOM SIZE ..`: the packs, each with how many frames it has, and `cut` behind one that is to be cut
@@ -16,13 +15,13 @@ pub fn plan(alloc: Global, line: &mut CaseLine) -> Answer {
     let sizes = sizes_of(line)?;
     let mut packs = Packs::new();
     plan_packs(&sizes, room, &mut packs);
-    let mut text = String::new(alloc);
+    let mut told = Told::new(alloc);
     for pack in packs.iter() {
-        let before = if text.is_empty() { "" } else { ", " };
-        let cut = if pack.chunked { " cut" } else { "" };
-        write!(text, "{before}{}{cut}", pack.count)?;
+        told.apart(", ");
+        told.show(&pack.count);
+        told.say(if pack.chunked { " cut" } else { "" });
     }
-    named(alloc, text)
+    told.answer_or("none")
 }
 
 /// `split COUNT BYTES`: the parts as START-END, or BadSizes
@@ -36,12 +35,13 @@ pub fn split(alloc: Global, line: &mut CaseLine) -> Answer {
         let kept = parts.is_empty();
         return said(alloc, if kept { "BadSizes" } else { "BadSizes left" });
     }
-    let mut text = String::new(alloc);
+    let mut told = Told::new(alloc);
     for part in parts.iter() {
-        let before = if text.is_empty() { "" } else { ", " };
-        write!(text, "{before}{}-{}", part.start, part.end)?;
+        told.apart(", ");
+        told.show(&part.start);
+        told.named("-", Some(part.end));
     }
-    named(alloc, text)
+    told.answer_or("none")
 }
 
 /// `write_sizes ROOM SIZE ..`: the bytes written into so much room, or Room
@@ -59,13 +59,6 @@ pub fn write_sizes(alloc: Global, line: &mut CaseLine) -> Answer {
         return said(alloc, "nothing");
     }
     written(alloc, done, 0, at, &room)
-}
-
-fn named(alloc: Global, text: String) -> Answer {
-    if text.is_empty() {
-        return said(alloc, "none");
-    }
-    Ok(Some(text))
 }
 
 /// The sizes that are left in the line, at most 16.

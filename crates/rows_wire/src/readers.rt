@@ -7,12 +7,12 @@ ghost use Rattle.dataset_reader.specs.Props.{IsReaderOf-prop};
 
 use crate::case_line::CaseLine;
 use crate::fields::{Case, Put, number_field, patch_of};
+use crate::told::Told;
 use case_lines::{Answer, LineFault, refused};
 use dataset_reader::{Numbering, Outcome, Reader, Took};
 use frame_codec::{Frame, FrameKind, read_frame};
 use pubsub_model::Why;
 use std::alloc::Global;
-use std::fmt::{self, Write};
 use ua_values::Value;
 
 /// The reader of the last line `reader`.
@@ -35,7 +35,7 @@ impl ReaderRows {
         };
         let mut fields = Vec::new(alloc);
         fields.push(number_field("a")?)?;
-        let case = Case::opening(fields, 1, 0, false)?;
+        let case = Case::opening(fields, 1, 0)?;
         let reader = Reader::new(numbering);
         self.heard = Some(Heard { case, reader });
         Ok(None)
@@ -51,7 +51,7 @@ impl ReaderRows {
         let number = line.left.number_or_dash::<u16>()?;
         let value = if kind == "alive" { 0 } else { line.u32() };
         let carried = Carried::read(line)?;
-        Ok(Some(heard.frame(alloc, kind, number, value, &carried)?))
+        heard.frame(alloc, kind, number, value, &carried)
     }
 
     /// `bytes BYTES`: what a frame that is read from these bytes gives, told as by `whole`
@@ -60,7 +60,7 @@ impl ReaderRows {
         let Some(heard) = &mut self.heard else {
             return Err(LineFault::Missing);
         };
-        Ok(Some(heard.bytes(alloc, &bytes)?))
+        heard.bytes(alloc, &bytes)
     }
 
     /// `cut WHY`: the reason, and what is held
@@ -70,9 +70,10 @@ impl ReaderRows {
             return Err(LineFault::Missing);
         };
         heard.reader.cut(why);
-        let mut text = format!(in alloc; "{:?}", heard.reader.why())?;
-        heard.push_held(&mut text)?;
-        Ok(Some(text))
+        let mut told = Told::new(alloc);
+        told.name(&heard.reader.why());
+        heard.tell_held(&mut told);
+        told.answer()
     }
 
     /// `why`: why no row is held
@@ -88,11 +89,13 @@ impl ReaderRows {
         let Some(heard) = &self.heard else {
             return Err(LineFault::Missing);
         };
-        let mut text = format!(in alloc; "{}", heard.reader.breaks())?;
+        let mut told = Told::new(alloc);
+        told.show(&heard.reader.breaks());
         for broke in heard.reader.recent() {
-            write!(text, " {}:{}", broke.expected, broke.got)?;
+            told.named(" ", Some(broke.expected));
+            told.named(":", Some(broke.got));
         }
-        Ok(Some(text))
+        told.answer()
     }
 }
 
@@ -161,16 +164,15 @@ impl Heard {
         number: Option<u16>,
         value: u32,
         carried: &Carried,
-    ) -> Result<String, LineFault> {
+    ) -> Answer {
         let put = Put {
             index: 0,
             value: Value::UInt32(value),
-            status: 0,
         };
         self.case.set(&put)?;
         let kind = match kind {
             "whole" => FrameKind::Whole(self.case.row),
-            "change" => FrameKind::Change(patch_of(&self.case.meta, &[put])?),
+            "change" => FrameKind::Change(patch_of(&self.case.meta, &put)?),
             _ => FrameKind::Alive,
         };
         let frame = Frame {
@@ -183,7 +185,7 @@ impl Heard {
         self.told(alloc, &took)
     }
 
-    fn bytes(&mut self, alloc: Global, bytes: &[u8]) -> Result<String, LineFault> {
+    fn bytes(&mut self, alloc: Global, bytes: &[u8]) -> Answer {
         let Ok(frame) = read_frame(&self.case.meta, bytes) else {
             return Err(LineFault::Condition);
         };
@@ -192,49 +194,54 @@ impl Heard {
     }
 
     /// The outcome, what is held, and the break.
-    fn told(&self, alloc: Global, took: &Took) -> Result<String, LineFault> {
-        let mut text = format!(in alloc; "{}", Told(took.outcome))?;
-        self.push_held(&mut text)?;
+    fn told(&self, alloc: Global, took: &Took) -> Answer {
+        let mut told = Told::new(alloc);
+        tell_outcome(&mut told, took.outcome);
+        self.tell_held(&mut told);
         if let Some(broke) = took.broke {
-            write!(text, "; broke {} {}", broke.expected, broke.got)?;
+            told.named("; broke ", Some(broke.expected));
+            told.named(" ", Some(broke.got));
         }
-        Ok(text)
+        told.answer()
     }
 
     /// Number and value of what is held.
-    fn push_held(&self, text: &mut String) -> Result<(), LineFault> {
+    fn tell_held(&self, told: &mut Told) {
+        told.say("; ");
         match self.reader.number() {
-            Some(number) => write!(text, "; {number} ")?,
-            None => text.write_str("; - ")?,
+            Some(number) => told.show(&number),
+            None => told.say("-"),
         }
+        told.say(" ");
         let meta = &self.case.meta;
         match self.reader.row() {
-            Some(row) if !meta.fields().is_empty() => push_value(text, &row.field(meta, 0)),
-            _ => Ok(text.write_str("-")?),
+            Some(row) if !meta.fields().is_empty() => told.named(
+                "",
+                number_in(&row.field(meta, 0)),
+            ),
+            _ => told.say("-"),
         }
     }
 }
 
-fn push_value(text: &mut String, value: &Value) -> Result<(), LineFault> {
-    if let Value::UInt32(value) = value {
-        write!(text, "{value}")?;
+/// The number of a UInt32.
+pub fn number_in(value: &Value) -> Option<u32> {
+    match value {
+        Value::UInt32(number) => Some(*number),
+        _ => None,
     }
-    Ok(())
 }
 
-/// An outcome as text.
-#[derive(Clone, Copy)]
-struct Told(Outcome);
-
-impl fmt::Display for Told {
-    fn fmt<W: fmt::Write>(&self, f: &mut fmt::Formatter<W>) -> fmt::Result {
-        match self.0 {
-            Outcome::Held => f.write_str("Held"),
-            Outcome::Alive => f.write_str("Alive"),
-            Outcome::Older => f.write_str("Older"),
-            Outcome::Waiting(why) => write!(f, "Waiting {why:?}"),
-            Outcome::WrongMajor { got } => write!(f, "WrongMajor {got}"),
-            Outcome::Unnumbered => f.write_str("Unnumbered"),
+fn tell_outcome(told: &mut Told, outcome: Outcome) {
+    match outcome {
+        Outcome::Held => told.say("Held"),
+        Outcome::Alive => told.say("Alive"),
+        Outcome::Older => told.say("Older"),
+        Outcome::Waiting(why) => {
+            told.say("Waiting ");
+            told.name(&why);
         }
+        Outcome::WrongMajor { got } => told.named("WrongMajor ", Some(got)),
+        Outcome::Unnumbered => told.say("Unnumbered"),
     }
 }

@@ -1,7 +1,6 @@
-//! The calls of rows, writers and readers by their names, and what is kept of them from line to line.
+//! The calls of writers and readers by their names, and what is kept of them from line to line.
 use crate::case_line::CaseLine;
 use crate::readers::ReaderRows;
-use crate::rows;
 use crate::writers::WriterRows;
 use case_lines::{Answer, LineFault};
 use std::alloc::Global;
@@ -21,20 +20,8 @@ impl RowCalls {
         }
     }
 
-    /// The calls of rows, patches and shapes in words.
+    /// The calls of a writer, and then those of a reader.
     pub fn answer(&mut self, alloc: Global, call: &str, line: &mut CaseLine) -> Answer {
-        match call {
-            "words" => rows::words(alloc, &mut line.left),
-            "shape" => rows::shape(alloc, &mut line.left),
-            "status" => rows::status(alloc, &mut line.left),
-            "first" => rows::first(alloc, &mut line.left),
-            "set" | "put" | "lay" | "changed" => rows::changes(alloc, call, &mut line.left),
-            call => self.write(alloc, call, line),
-        }
-    }
-
-    /// The calls of a writer.
-    fn write(&mut self, alloc: Global, call: &str, line: &mut CaseLine) -> Answer {
         match call {
             "data" => self.writers.data(alloc, line),
             "writer" => self.writers.writer(alloc, line),

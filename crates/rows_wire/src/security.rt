@@ -1,7 +1,7 @@
 //! Rows of `aes_ctr`, `hmac_sign` and `group_keys`.
 use crate::case_line::CaseLine;
 use crate::guards::encrypting_key;
-use crate::tries::made;
+use crate::told::Told;
 use aes_ctr::{Key, Key128, Key256, apply_stream};
 use arrayvec::ArrayVec;
 use case_lines::{Answer, Hex, LineFault, number, parted, refused, said, told_bytes};
@@ -51,7 +51,11 @@ pub fn hmac(alloc: Global, line: &mut CaseLine) -> Answer {
     let signature = sign(&key, &text);
     let same = matches(&key, &text, &signature);
     let kept = agrees_kept(&key, &text, &signature);
-    made(format!(in alloc; "{} {same} {kept}", Hex(&signature)))
+    let mut told = Told::new(alloc);
+    told.show(&Hex(&signature));
+    told.named(" ", Some(same));
+    told.named(" ", Some(kept));
+    told.answer()
 }
 
 /// Whether a key that is kept with its pads hashed signs so, where the key has at most 32 bytes.

@@ -1,111 +1,61 @@
 //! Headers as text.
+use crate::told::Told;
 use case_lines::Digits;
-use std::fmt;
 use uadp_header::{Header, Ids, PublisherId, SecurityPart};
 
 /// A header by its parts, as `spell_header` takes them; `-` where there is none.
-#[derive(Clone, Copy)]
-pub struct ShownHeader<'a>(pub &'a Header<'a>);
-
-impl fmt::Display for ShownHeader<'_> {
-    fn fmt<W: fmt::Write>(&self, f: &mut fmt::Formatter<W>) -> fmt::Result {
-        let header = self.0;
-        let mut words = Parts { any: false };
-        if let Some(publisher) = &header.publisher {
-            words.next(f, "id=")?;
-            write_publisher(f, publisher)?;
-        }
-        if let Some(class_id) = &header.class_id {
-            words.bytes(f, "class=", class_id)?;
-        }
-        words.number(f, "group=", header.group)?;
-        words.number(f, "version=", header.version)?;
-        words.number(f, "number=", header.message_number)?;
-        words.number(f, "sequence=", header.sequence)?;
-        match &header.ids {
-            Ids::None => {}
-            Ids::List(bytes) => words.bytes(f, "ids=list:", bytes)?,
-            Ids::Chunk(id) => words.number(f, "ids=chunk:", Some(*id))?,
-        }
-        if let Some(security) = &header.security {
-            words.next(f, "security=")?;
-            write_security(f, security)?;
-        }
-        if words.any { Ok(()) } else { f.write_str("-") }
+pub fn tell_header(told: &mut Told, header: &Header) {
+    if let Some(publisher) = &header.publisher {
+        tell_publisher(told, publisher);
+    }
+    if let Some(class_id) = &header.class_id {
+        tell_bytes(told, "class=", class_id);
+    }
+    told.word("group=", header.group);
+    told.word("version=", header.version);
+    told.word("number=", header.message_number);
+    told.word("sequence=", header.sequence);
+    match &header.ids {
+        Ids::None => {}
+        Ids::List(bytes) => tell_bytes(told, "ids=list:", bytes),
+        Ids::Chunk(id) => told.word("ids=chunk:", Some(*id)),
+    }
+    if let Some(security) = &header.security {
+        tell_security(told, security);
+    }
+    if told.is_empty() {
+        told.say("-");
     }
 }
 
-/// The words of a line: a space before each but the first.
-#[derive(Drop)]
-struct Parts {
-    any: bool,
+fn tell_bytes(told: &mut Told, name: &str, bytes: &[u8]) {
+    told.word(name, Some(Digits(bytes)));
 }
 
-impl Parts {
-    fn next<W: fmt::Write>(&mut self, f: &mut fmt::Formatter<W>, name: &str) -> fmt::Result {
-        if self.any {
-            f.write_str(" ")?;
-        }
-        self.any = true;
-        f.write_str(name)
-    }
-
-    /// A number behind its name, where there is one.
-    fn number<W: fmt::Write, N: fmt::Display + Copy>(
-        &mut self,
-        f: &mut fmt::Formatter<W>,
-        name: &str,
-        number: Option<N>,
-    ) -> fmt::Result {
-        let Some(number) = number else {
-            return Ok(());
-        };
-        self.next(f, name)?;
-        write!(f, "{number}")
-    }
-
-    fn bytes<W: fmt::Write>(
-        &mut self,
-        f: &mut fmt::Formatter<W>,
-        name: &str,
-        bytes: &[u8],
-    ) -> fmt::Result {
-        self.next(f, name)?;
-        write!(f, "{}", Digits(bytes))
-    }
-}
-
-fn write_publisher<W: fmt::Write>(
-    f: &mut fmt::Formatter<W>,
-    publisher: &PublisherId,
-) -> fmt::Result {
+fn tell_publisher(told: &mut Told, publisher: &PublisherId) {
     match publisher {
-        PublisherId::U8(id) => write_id(f, "u8", u64::from(*id)),
-        PublisherId::U16(id) => write_id(f, "u16", u64::from(*id)),
-        PublisherId::U32(id) => write_id(f, "u32", u64::from(*id)),
-        PublisherId::U64(id) => write_id(f, "u64", *id),
-        PublisherId::Text(text) => write!(f, "text:{}", Digits(text.as_bytes())),
+        PublisherId::U8(id) => told.word("id=u8:", Some(*id)),
+        PublisherId::U16(id) => told.word("id=u16:", Some(*id)),
+        PublisherId::U32(id) => told.word("id=u32:", Some(*id)),
+        PublisherId::U64(id) => told.word("id=u64:", Some(*id)),
+        PublisherId::Text(text) => tell_bytes(told, "id=text:", text.as_bytes()),
     }
 }
 
-fn write_id<W: fmt::Write>(f: &mut fmt::Formatter<W>, kind: &str, id: u64) -> fmt::Result {
-    write!(f, "{kind}:{id}")
+fn tell_security(told: &mut Told, part: &SecurityPart) {
+    told.word("security=", Some(""));
+    tell_flags(told, part);
+    told.named(":", Some(part.token));
+    told.named(":", Some(Digits(part.nonce)));
 }
 
-fn write_security<W: fmt::Write>(f: &mut fmt::Formatter<W>, part: &SecurityPart) -> fmt::Result {
-    let flags = [
-        (part.signed, "s"),
-        (part.encrypted, "e"),
-        (part.footer, "f"),
-        (part.reset, "r"),
-    ];
-    let mut any = false;
-    for (is_set, letter) in flags {
-        if is_set {
-            any = true;
-            f.write_str(letter)?;
-        }
+/// The letters of the flags that are set, or `-` for none of them.
+fn tell_flags(told: &mut Told, part: &SecurityPart) {
+    told.say(if part.signed { "s" } else { "" });
+    told.say(if part.encrypted { "e" } else { "" });
+    told.say(if part.footer { "f" } else { "" });
+    told.say(if part.reset { "r" } else { "" });
+    if !(part.signed || part.encrypted || part.footer || part.reset) {
+        told.say("-");
     }
-    let before = if any { "" } else { "-" };
-    write!(f, "{before}:{}:{}", part.token, Digits(part.nonce))
 }

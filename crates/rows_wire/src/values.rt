@@ -1,9 +1,8 @@
 //! Rows of `ua_values` and `ua_binary`.
 use crate::case_line::CaseLine;
-use crate::tries::{made, short_of, written};
-use case_lines::{Answer, LineFault, Shown, kind_of, refused, said, value_of, yes_or_no};
+use crate::told::{Told, written};
+use case_lines::{Answer, Digits, LineFault, Shown, kind_of, refused, said, value_of, yes_or_no};
 use std::alloc::Global;
-use std::fmt::Write;
 use ua_binary::{
     Cursor, Measured, Pen, ValueFault, read_data_value as read_measured,
     read_variant as read_value, write_data_value as write_measured, write_variant as write_value,
@@ -30,8 +29,10 @@ pub fn blob(alloc: Global, line: &mut CaseLine) -> Answer {
 
 /// How many bytes are kept, and whether they are those that were given.
 fn kept(alloc: Global, given: &[u8], bytes: &[u8]) -> Answer {
-    let same = given == bytes;
-    made(format!(in alloc; "{} bytes, the same: {same}", bytes.len()))
+    let mut told = Told::new(alloc);
+    told.show(&bytes.len());
+    told.named(" bytes, the same: ", Some(given == bytes));
+    told.answer()
 }
 
 /// `fits KIND CAP BYTES`, the bytes of a Variant: whether its value fits such a field
@@ -57,8 +58,10 @@ pub fn read_variant(alloc: Global, line: &mut CaseLine) -> Answer {
     };
     match read_value(&mut cursor) {
         Ok(value) => {
-            let rest = bytes.len() - cursor.at;
-            made(format!(in alloc; "{}, rest {rest}", Shown(&value)))
+            let mut told = Told::new(alloc);
+            told.show(&Shown(&value));
+            told.named(", rest ", Some(bytes.len() - cursor.at));
+            told.answer()
         }
         Err(fault) => refused_at(alloc, fault, cursor.at),
     }
@@ -78,12 +81,14 @@ pub fn read_data_value(alloc: Global, line: &mut CaseLine) -> Answer {
 }
 
 fn measured_text(alloc: Global, measured: &Measured, rest: usize) -> Answer {
-    let status = measured.status;
-    let told = match &measured.value {
-        Some(value) => format!(in alloc; "{}, status 0x{status:08x}, rest {rest}", Shown(value))?,
-        None => format!(in alloc; "no value, status 0x{status:08x}, rest {rest}")?,
-    };
-    Ok(Some(told))
+    let mut told = Told::new(alloc);
+    match &measured.value {
+        Some(value) => told.show(&Shown(value)),
+        None => told.say("no value"),
+    }
+    told.status(", status ", measured.status);
+    told.named(", rest ", Some(rest));
+    told.answer()
 }
 
 /// The fault, or that the cursor moved.
@@ -95,63 +100,25 @@ fn refused_at(alloc: Global, fault: ValueFault, at: usize) -> Answer {
     }
 }
 
-/// `prefixes_of_variant BYTES`: how many proper prefixes are Short, and leave the cursor
-pub fn prefixes_of_variant(alloc: Global, line: &mut CaseLine) -> Answer {
-    let bytes = line.bytes(alloc);
-    let mut short = 0_usize;
-    for len in 0..bytes.len() {
-        if is_short_variant(&bytes[..len]) {
-            short = short.saturating_add(1);
-        }
-    }
-    short_of(alloc, short, &bytes)
-}
-
-fn is_short_variant(bytes: &[u8]) -> bool {
-    let mut cursor = Cursor { bytes, at: 0 };
-    match read_value(&mut cursor) {
-        Ok(_) => false,
-        Err(fault) => fault == ValueFault::Short && cursor.at == 0,
-    }
-}
-
-/// `prefixes_of_data_value BYTES`: how many proper prefixes are Short, and leave the cursor
-pub fn prefixes_of_data_value(alloc: Global, line: &mut CaseLine) -> Answer {
-    let bytes = line.bytes(alloc);
-    let mut short = 0_usize;
-    for len in 0..bytes.len() {
-        if is_short_data_value(&bytes[..len]) {
-            short = short.saturating_add(1);
-        }
-    }
-    short_of(alloc, short, &bytes)
-}
-
-fn is_short_data_value(bytes: &[u8]) -> bool {
-    let mut cursor = Cursor { bytes, at: 0 };
-    match read_measured(&mut cursor) {
-        Ok(_) => false,
-        Err(fault) => fault == ValueFault::Short && cursor.at == 0,
-    }
-}
-
 /// `kinds`: the type bytes that a Variant with 260 zeros behind them isn't KindOut for
 pub fn kinds(alloc: Global) -> Answer {
-    let mut answer = String::new(alloc);
+    let mut told = Told::new(alloc);
     for first in 0..=255 {
-        let mut bytes = [0; 261];
-        bytes[0] = first;
-        let fault = read_value(&mut Cursor {
-            bytes: &bytes,
-            at: 0,
-        })
-        .err();
-        if fault != Some(ValueFault::KindOut) {
-            let before = if answer.is_empty() { "" } else { " " };
-            write!(answer, "{before}{first:02x}")?;
+        if is_kind(first) {
+            told.word("", Some(Digits(&[first])));
         }
     }
-    Ok(Some(answer))
+    told.answer()
+}
+
+fn is_kind(first: u8) -> bool {
+    let mut bytes = [0; 261];
+    bytes[0] = first;
+    let read = read_value(&mut Cursor {
+        bytes: &bytes,
+        at: 0,
+    });
+    read.err() != Some(ValueFault::KindOut)
 }
 
 /// `write_variant ROOM VALUE`: the bytes, or Room, in a buffer of so many bytes

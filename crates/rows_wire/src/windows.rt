@@ -1,6 +1,6 @@
 //! Rows of `replay_window`.
 use crate::case_line::CaseLine;
-use crate::tries::made;
+use crate::told::two;
 use case_lines::{Answer, said};
 use replay_window::{Seen, Window};
 use std::alloc::Global;
@@ -44,6 +44,6 @@ fn told_seen(alloc: Global, seen: Seen) -> Answer {
     match seen {
         Seen::Fresh => said(alloc, "fresh"),
         Seen::Repeated => said(alloc, "repeated"),
-        Seen::TooOld { high } => made(format!(in alloc; "old {high}")),
+        Seen::TooOld { high } => two(alloc, &"old", &high),
     }
 }

@@ -1,6 +1,4 @@
 //! Cases of `dataset_writer`.
-ghost use Rattle.std.specs.Prelude.{◌≡◌, ◌<◌, length};
-ghost use Rattle.row_words.specs.Belonging.{Belongs};
 ghost use Rattle.row_words.specs.Patches.{IsPatchOf};
 ghost use Rattle.dataset_writer.specs.Standing.{HoldsRowOf};
 ghost use Rattle.dataset_writer.specs.Props.{HoldsRowOf-prop};
@@ -8,13 +6,15 @@ ghost use Rattle.frame_codec.specs.Words.{IsFrameOf};
 
 use crate::case_line::CaseLine;
 use crate::fields::{Case, Put, number_field};
+use crate::frames::kind_of;
+use crate::readers::number_in;
+use crate::told::Told;
 use case_lines::{Answer, LineFault, number, said};
 use dataset_meta::Meta;
 use dataset_writer::{Turn, Writer, WriterSettings};
 use frame_codec::{Frame, FrameKind};
-use row_words::{Patch, Row};
+use row_words::Patch;
 use std::alloc::Global;
-use std::fmt::Write;
 use ua_values::Value;
 
 /// Turns that a writer has room for.
@@ -41,7 +41,7 @@ impl WriterRows {
         for name in line.words() {
             fields.push(number_field(name)?)?;
         }
-        self.next = Some(Case::opening(fields, 7, 3, false)?);
+        self.next = Some(Case::opening(fields, 7, 3)?);
         Ok(None)
     }
 
@@ -87,7 +87,7 @@ impl WriterRows {
         let Some(served) = &mut self.served else {
             return Err(LineFault::Missing);
         };
-        Ok(Some(served.turn(alloc, now, version, &values, closing)?))
+        served.turn(alloc, now, version, &values, closing)
     }
 
     /// `quiet TURNS NOW VERSION VALUE ..`: whether so many turns, each the same, were all quiet
@@ -99,9 +99,9 @@ impl WriterRows {
             return Err(LineFault::Missing);
         };
         for _ in 0..turns {
-            let answer = served.turn(alloc, now, version, &values, false)?;
-            if answer.as_str() != "quiet" {
-                return said(alloc, "no");
+            match served.turn(alloc, now, version, &values, false)? {
+                Some(text) if text.as_str() == "quiet" => {}
+                _ => return said(alloc, "no"),
             }
         }
         said(alloc, "yes")
@@ -112,12 +112,12 @@ impl WriterRows {
         let Some(served) = &self.served else {
             return Err(LineFault::Missing);
         };
-        let mut text = String::new(alloc);
+        let mut told = Told::new(alloc);
         for (place, version) in served.writer.log() {
-            let before = if text.is_empty() { "" } else { " " };
-            write!(text, "{before}{place}:{version}")?;
+            told.word("", Some(*place));
+            told.named(":", Some(*version));
         }
-        Ok(Some(text))
+        told.answer()
     }
 
     /// The data set that no writer has yet, or that of the writer before.
@@ -140,7 +140,6 @@ fn values_of(alloc: Global, line: &CaseLine) -> Result<Vec<Put>, LineFault> {
         values.push(Put {
             index,
             value: Value::UInt32(number(word)?),
-            status: 0,
         })?;
         index = index.saturating_add(1);
     }
@@ -163,7 +162,7 @@ impl Served {
         version: u64,
         values: &[Put],
         closing: bool,
-    ) -> Result<String, LineFault> {
+    ) -> Answer {
         if self.writer.left() == 0 {
             return Err(LineFault::Condition);
         }
@@ -171,51 +170,36 @@ impl Served {
         let Case { meta, row } = &self.case;
         match self.writer.turn(meta, now, row, version, closing) {
             Turn::Send(frame) => frame_text(alloc, meta, &frame),
-            Turn::Quiet => Ok(String::from_str(alloc, "quiet")?),
+            Turn::Quiet => said(alloc, "quiet"),
         }
     }
 }
 
 /// Kind, number, changes and version of a frame.
-fn frame_text(alloc: Global, meta: &Meta, frame: &Frame) -> Result<String, LineFault>
+fn frame_text(alloc: Global, meta: &Meta, frame: &Frame) -> Answer
     requires { IsFrameOf meta.now frame.now }
 {
-    let kind = match &frame.kind {
-        FrameKind::Whole(_) => "whole",
-        FrameKind::Change(_) => "change",
-        FrameKind::Alive => "alive",
-    };
-    let mut text = String::from_str(alloc, kind)?;
-    if let Some(number) = frame.number {
-        write!(text, " {number}")?;
-    }
+    let mut told = Told::new(alloc);
+    told.say(kind_of(&frame.kind));
+    told.named(" ", frame.number);
     if let FrameKind::Change(patch) = &frame.kind {
-        push_changes(&mut text, meta, patch)?;
+        tell_changes(&mut told, meta, patch);
     }
     if let (Some(major), Some(minor)) = (frame.major, frame.minor) {
-        write!(text, " version {major}.{minor}")?;
+        told.named(" version ", Some(major));
+        told.named(".", Some(minor));
     }
-    Ok(text)
+    told.answer()
 }
 
 /// INDEX=VALUE of each field that is marked.
-fn push_changes(text: &mut String, meta: &Meta, patch: &Patch) -> Result<(), LineFault>
+fn tell_changes(told: &mut Told, meta: &Meta, patch: &Patch)
     requires { IsPatchOf meta.now patch.now }
 {
     for index in 0..meta.fields().len() {
         if patch.mask >> (index % 64) & 1 == 1 {
-            push_change(text, meta, &patch.row, index as u8)?;
+            told.named(" ", Some(index));
+            told.named("=", number_in(&patch.row.field(meta, index as u8)));
         }
     }
-    Ok(())
-}
-
-fn push_change(text: &mut String, meta: &Meta, row: &Row, index: u8) -> Result<(), LineFault>
-    requires belongs { Belongs meta.now row.now.words }
-    requires index { index < length meta.now.fields }
-{
-    if let Value::UInt32(value) = row.field(meta, index) {
-        write!(text, " {index}={value}")?;
-    }
-    Ok(())
 }
