@@ -250,6 +250,8 @@ int main(int count, char **words) {
     check_keys();
     check_kinds();
     check_memory();
+    check_own();
+    check_readers();
     check_refusals();
     check_damaged();
     printf("calls: ok, %u damaged datagrams\n", turns * COPIES);

@@ -22,6 +22,8 @@ void check_groups(void);
 void check_keys(void);
 void check_kinds(void);
 void check_memory(void);
+void check_own(void);
+void check_readers(void);
 void check_refusals(void);
 
 // ---- datagrams

@@ -62,6 +62,13 @@ static void demand_of_getters(struct uap_handle *handle, uint32_t group, uint32_
     DEMAND(uap_get_guid(handle, group, reader, field, &guid) == status && uap_get_field_status(handle, group, reader, field, &u32) == status);
 }
 
+static void demand_of_own(struct uap_handle *handle, uint32_t set, uint32_t field, uint32_t status) {
+    uint32_t u32;
+    DEMAND(uap_own_u32(handle, set, field, &u32) == status && uap_own_field_status(handle, set, field, &u32) == status);
+    DEMAND(uap_own_text(handle, set, field, (char *)bytes, sizeof bytes, &length) == status);
+    DEMAND(uap_own_bytes(handle, set, field, bytes, sizeof bytes, &length) == status && uap_own_guid(handle, set, field, &guid) == status);
+}
+
 static void demand_of_writers(struct uap_handle *handle, uint32_t group, uint32_t writer, uint32_t status) {
     DEMAND(uap_writer_enable(handle, group, writer) == status && uap_writer_disable(handle, group, writer) == status);
 }
@@ -69,8 +76,13 @@ static void demand_of_writers(struct uap_handle *handle, uint32_t group, uint32_
 static void demand_of_readers(struct uap_handle *handle, uint32_t group, uint32_t reader, uint32_t status) {
     uint32_t why;
     uint16_t number;
+    uint64_t age;
+    struct uap_fault fault;
+    struct uap_passed passed;
     DEMAND(uap_reader_enable(handle, group, reader) == status && uap_reader_disable(handle, group, reader) == status);
     DEMAND(uap_reader_why(handle, group, reader, &why) == status && uap_reader_number(handle, group, reader, &number) == status);
+    DEMAND(uap_reader_age(handle, group, reader, 0, &age) == status && uap_reader_is_fresh(handle, group, reader, 0, 9) == status);
+    DEMAND(uap_reader_last_fault(handle, group, reader, &fault) == status && uap_reader_passed(handle, group, reader, &passed) == status);
 }
 
 static void demand_of_key_groups(struct uap_handle *handle, uint32_t keygroup, uint32_t status) {
@@ -80,12 +92,19 @@ static void demand_of_key_groups(struct uap_handle *handle, uint32_t keygroup, u
 }
 
 static void demand_of_read_groups(struct uap_handle *handle, uint32_t group, uint32_t status) {
+    struct uap_refused refused;
     DEMAND(uap_subscriber_datagram(handle, group, 0, bytes, 4, &taken) == status && uap_subscriber_renew(handle, group, &keys, 1) == status);
+    DEMAND(uap_read_group_refused(handle, group, &refused) == status && uap_read_group_only(handle, group, 1) == status);
 }
 
 static void demand_of_publisher(struct uap_handle *handle, uint32_t status) {
     size_t count;
+    uint64_t moment;
+    uint32_t group;
     demand_of_setters(handle, 0, 0, status);
+    demand_of_own(handle, 0, 0, status);
+    DEMAND(uap_publisher_due(handle, 0, &moment) == status && uap_publisher_group(handle, &group) == status);
+    DEMAND(uap_group_may_turn(handle, 0) == status);
     demand_of_writers(handle, 0, 0, status);
     demand_of_key_groups(handle, 0, status);
     DEMAND(uap_publisher_next(handle, 0, bytes, sizeof bytes, &length) == status);
@@ -96,7 +115,8 @@ static void demand_of_subscriber(struct uap_handle *handle, uint32_t status) {
     demand_of_getters(handle, 0, 0, 0, status);
     demand_of_readers(handle, 0, 0, status);
     demand_of_read_groups(handle, 0, status);
-    DEMAND(uap_subscriber_expire(handle, 0) == status);
+    uint64_t moment;
+    DEMAND(uap_subscriber_expire(handle, 0) == status && uap_subscriber_due(handle, 0, &moment) == status);
 }
 
 static void demand_of_lists(struct uap_handle *handle, uint32_t status) {
@@ -112,7 +132,7 @@ static void demand_of_parts(struct uap_handle *handle, uint32_t of, uint32_t sta
     size_t count;
     uint32_t index;
     char name[UAP_NAME_ROOM];
-    struct uap_field_info info;
+    struct uap_field info;
     DEMAND(uap_field_count(handle, of, &count) == status && uap_field_name(handle, of, 0, name, sizeof name) == status);
     DEMAND(uap_writer_count(handle, of, &count) == status && uap_writer_name(handle, of, 0, name, sizeof name) == status);
     DEMAND(uap_reader_count(handle, of, &count) == status && uap_reader_name(handle, of, 0, name, sizeof name) == status);
@@ -122,7 +142,7 @@ static void demand_of_parts(struct uap_handle *handle, uint32_t of, uint32_t sta
 
 static void demand_of_places(struct uap_handle *handle, uint32_t index, uint32_t status) {
     char name[UAP_NAME_ROOM];
-    struct uap_field_info info;
+    struct uap_field info;
     DEMAND(uap_dataset_name(handle, index, name, sizeof name) == status && uap_field_name(handle, 0, index, name, sizeof name) == status);
     DEMAND(uap_keygroup_name(handle, index, name, sizeof name) == status && uap_group_name(handle, index, name, sizeof name) == status);
     DEMAND(uap_writer_name(handle, 0, index, name, sizeof name) == status && uap_read_group_name(handle, index, name, sizeof name) == status);
@@ -186,6 +206,13 @@ static void check_null_outputs(struct uap_handle *publisher, struct uap_handle *
     DEMAND(uap_get_text(subscriber, 0, 0, 0, NULL, 0, &length) == UAP_NULL && uap_get_text(subscriber, 0, 0, 0, (char *)bytes, 9, NULL) == UAP_NULL);
     DEMAND(uap_get_bytes(subscriber, 0, 0, 0, NULL, 0, &length) == UAP_NULL && uap_get_bytes(subscriber, 0, 0, 0, bytes, 9, NULL) == UAP_NULL);
     DEMAND(uap_get_field_status(subscriber, 0, 0, 0, NULL) == UAP_NULL);
+    DEMAND(uap_publisher_due(publisher, 0, NULL) == UAP_NULL && uap_publisher_group(publisher, NULL) == UAP_NULL);
+    DEMAND(uap_own_u32(publisher, 0, 0, NULL) == UAP_NULL && uap_own_field_status(publisher, 0, 0, NULL) == UAP_NULL);
+    DEMAND(uap_own_text(publisher, 0, 0, NULL, 0, &length) == UAP_NULL && uap_own_text(publisher, 0, 0, (char *)bytes, 9, NULL) == UAP_NULL);
+    DEMAND(uap_own_bytes(publisher, 0, 0, NULL, 0, &length) == UAP_NULL && uap_own_guid(publisher, 0, 0, NULL) == UAP_NULL);
+    DEMAND(uap_reader_age(subscriber, 0, 0, 0, NULL) == UAP_NULL && uap_subscriber_due(subscriber, 0, NULL) == UAP_NULL);
+    DEMAND(uap_reader_last_fault(subscriber, 0, 0, NULL) == UAP_NULL && uap_reader_passed(subscriber, 0, 0, NULL) == UAP_NULL);
+    DEMAND(uap_read_group_refused(subscriber, 0, NULL) == UAP_NULL);
 }
 
 // ---- indexes
@@ -193,6 +220,9 @@ static void check_null_outputs(struct uap_handle *publisher, struct uap_handle *
 static void check_index(struct uap_handle *publisher, struct uap_handle *subscriber, uint32_t index) {
     demand_of_setters(publisher, index, 0, UAP_INDEX);
     demand_of_setters(publisher, 0, index, UAP_INDEX);
+    demand_of_own(publisher, index, 0, UAP_INDEX);
+    demand_of_own(publisher, 0, index, UAP_INDEX);
+    DEMAND(uap_group_may_turn(publisher, index) == UAP_INDEX);
     demand_of_writers(publisher, index, 0, UAP_INDEX);
     demand_of_writers(publisher, 0, index, UAP_INDEX);
     demand_of_key_groups(publisher, index, UAP_INDEX);
@@ -234,7 +264,7 @@ static void demand_list(struct uap_handle *handle, uint32_t list, uint32_t of, c
 
 static void demand_listed(struct uap_handle *handle) {
     char name[UAP_NAME_ROOM] = "as it was";
-    struct uap_field_info info;
+    struct uap_field info;
     uint32_t index;
     demand_list(handle, UAP_DATASETS, 0, NAMES("drive", "a_name_of_thirty_two_small_bytes"));
     demand_list(handle, UAP_FIELDS, 0, NAMES("speed", "label"));
@@ -265,7 +295,7 @@ static void check_listed(void) {
 
 static void check_names(void) {
     DEMAND(strcmp(uap_status_name(UAP_OK), "UAP_OK") == 0 && strcmp(uap_status_name(UAP_TOO_OLD), "UAP_TOO_OLD") == 0);
-    DEMAND(strcmp(uap_status_name(18), "?") == 0 && strcmp(uap_status_name(100), "?") == 0 && strcmp(uap_status_name(UINT32_MAX), "?") == 0);
+    DEMAND(strcmp(uap_status_name(19), "?") == 0 && strcmp(uap_status_name(100), "?") == 0 && strcmp(uap_status_name(UINT32_MAX), "?") == 0);
     DEMAND(strcmp(uap_why_name(UAP_WHY_GAP), "UAP_WHY_GAP") == 0 && strcmp(uap_why_name(6), "?") == 0);
 }
 

@@ -56,6 +56,7 @@ enum {
     UAP_EARLIER_TOKEN = 15,  /* the key set of the moment is of an earlier token, and what was used under that isn't known */
     UAP_NUMBERS_AGAIN = 16,  /* numbers would be used again: the token is lower than the one in use, or is that one with a greater number used */
     UAP_NO_KIND = 17,        /* no kind of a field, or no list, has this number */
+    UAP_STALE = 18,          /* the row that the reader holds is older than that */
 
     /* Why a datagram is refused. */
     UAP_HEADER_SHORT = 101,     /* it ends before its header does */
@@ -123,6 +124,27 @@ enum {
 /* The longest name, with a zero at its end. */
 #define UAP_NAME_ROOM 33
 
+/* Why a part of a reader couldn't be read: a message, a chunk of one, or a slot (docs/FAULTS.md). */
+enum {
+    UAP_FAULT_NONE = 0,         /* each could be read */
+    UAP_FAULT_SHORT = 1,        /* the bytes end before the message does */
+    UAP_FAULT_ENCODING = 2,     /* field encoding 3, or RawData where it may not be */
+    UAP_FAULT_KIND = 3,         /* a value is null, an array, or of a type that no field has */
+    UAP_FAULT_VALUE = 4,        /* a value is of another kind than its field, as a StatusCode in a Bad field's place, longer than its cap, or not UTF-8 */
+    UAP_FAULT_INDEX = 5,        /* `got` is no field's index */
+    UAP_FAULT_COUNT = 6,        /* the key frame has `got` fields, and the data set another number */
+    UAP_FAULT_TRAILING = 7,     /* a byte after the end isn't 0 */
+    UAP_FAULT_NOT_VALID = 8,    /* the message says that it isn't valid */
+    UAP_FAULT_EVENT = 9,        /* it is an event */
+    UAP_FAULT_RESERVED = 10,    /* a kind of message or a flag that the standard reserves */
+    UAP_FAULT_CHUNK = 20,       /* the bytes end before the chunk does */
+    UAP_FAULT_CHUNK_LENGTH = 21,/* the length of the chunk's data is negative */
+    UAP_FAULT_TOO_LONG = 22,    /* the message has `got` bytes, more than are joined */
+    UAP_FAULT_RANGE = 23,       /* the chunk begins at byte `got` of `of`, and passes the end or has none */
+    UAP_FAULT_DIFFERS = 24,     /* the message has `got` bytes, and `of` by the chunks before */
+    UAP_FAULT_MISSING = 30      /* the datagram ends before the reader's slot does */
+};
+
 /* A handle: UAP_CLOSED_HANDLE before it is opened. What stands in it is the library's. */
 struct uap_handle {
     uint32_t is_open;
@@ -153,10 +175,40 @@ struct uap_taken {
 };
 
 /* What a field is. */
-struct uap_field_info {
+struct uap_field {
     uint32_t kind;     /* UAP_BOOLEAN .. UAP_STATUS_CODE */
     uint32_t cap;      /* how many bytes a String or a ByteString may have; else 0 */
     uint32_t quality;  /* 1 where each value has a status of its own, else 0 */
+};
+
+/* Why parts of a reader couldn't be read, since the subscriber was opened. */
+struct uap_fault {
+    uint64_t bad;    /* how many couldn't */
+    uint32_t fault;  /* why the last one couldn't: UAP_FAULT_.. */
+    uint32_t got;    /* what it had, as its fault says; else 0 */
+    uint32_t of;     /* of how many bytes, as its fault says; else 0 */
+};
+
+/* How many messages a reader passed over, since the subscriber was opened. */
+struct uap_passed {
+    uint64_t other_major;  /* of another major version of the data set */
+    uint64_t unnumbered;   /* without a number, where the reader goes by numbers; delta frames, where it goes by none */
+    uint64_t older;        /* not newer than the last one that it took */
+    uint32_t major;        /* the other major version of the last one */
+    uint32_t has_major;    /* 1 where there was one, else 0 */
+};
+
+/* What a read group refused, since the subscriber was opened. Of the last datagram it tells whose it was, as its header has it, where the
+ * status is UAP_NOT_OURS, and the token where that is unknown or old. What isn't there is 0, and its `has_..` too. */
+struct uap_refused {
+    uint64_t count;           /* how many datagrams */
+    uint64_t publisher;       /* the PublisherId, where it is a number */
+    uint32_t status;          /* why the last one: UAP_HEADER_SHORT .. UAP_TOO_OLD; UAP_OK where none was */
+    uint32_t publisher_type;  /* UAP_BYTE, UAP_UINT16, UAP_UINT32, UAP_UINT64 or UAP_STRING; 0 where it has no PublisherId */
+    uint32_t group, has_group;      /* the WriterGroupId */
+    uint32_t version, has_version;  /* the GroupVersion */
+    uint32_t number, has_number;    /* the NetworkMessageNumber */
+    uint32_t token, has_token;      /* the SecurityTokenId */
 };
 
 /* How C and C++ cast. */
@@ -175,9 +227,17 @@ uint32_t uapubsub_close(struct uap_handle *handle);
 uint32_t uapubsub_count(struct uap_handle *handle, uint32_t list, uint32_t of, size_t *count);
 uint32_t uapubsub_name(struct uap_handle *handle, uint32_t list, uint32_t of, uint32_t index, uint8_t *buffer, size_t room, size_t *length);
 uint32_t uapubsub_index(struct uap_handle *handle, uint32_t list, uint32_t of, const uint8_t *name, size_t length, uint32_t *index);
-uint32_t uapubsub_field_info(struct uap_handle *handle, uint32_t set, uint32_t field, struct uap_field_info *info);
+uint32_t uapubsub_field_info(struct uap_handle *handle, uint32_t set, uint32_t field, struct uap_field *info);
 uint32_t uapubsub_publisher_open(struct uap_handle *handle, const uint8_t *text, size_t length);
 uint32_t uapubsub_publisher_next(struct uap_handle *handle, uint64_t now_ms, uint8_t *buffer, size_t room, size_t *length);
+uint32_t uapubsub_publisher_due(struct uap_handle *handle, uint64_t now_ms, uint64_t *moment_ms);
+uint32_t uapubsub_publisher_group(struct uap_handle *handle, uint32_t *group);
+uint32_t uapubsub_group_may_turn(struct uap_handle *handle, uint32_t group);
+uint32_t uapubsub_own_word(struct uap_handle *handle, uint32_t set, uint32_t field, uint32_t kind, uint64_t *word);
+uint32_t uapubsub_own_text(struct uap_handle *handle, uint32_t set, uint32_t field, uint8_t *buffer, size_t room, size_t *length);
+uint32_t uapubsub_own_bytes(struct uap_handle *handle, uint32_t set, uint32_t field, uint8_t *buffer, size_t room, size_t *length);
+uint32_t uapubsub_own_guid(struct uap_handle *handle, uint32_t set, uint32_t field, struct uap_guid *guid);
+uint32_t uapubsub_own_field_status(struct uap_handle *handle, uint32_t set, uint32_t field, uint32_t *status);
 uint32_t uapubsub_publisher_standing(struct uap_handle *handle, uint32_t keygroup, uint32_t *token, uint32_t *used);
 uint32_t uapubsub_publisher_resume(struct uap_handle *handle, uint32_t keygroup, uint64_t now_ms, uint32_t used);
 uint32_t uapubsub_publisher_resume_with(struct uap_handle *handle, uint32_t keygroup, uint64_t now_ms, uint32_t token, uint32_t used,
@@ -193,6 +253,13 @@ uint32_t uapubsub_reader_enable(struct uap_handle *handle, uint32_t group, uint3
 uint32_t uapubsub_reader_disable(struct uap_handle *handle, uint32_t group, uint32_t reader);
 uint32_t uapubsub_reader_why(struct uap_handle *handle, uint32_t group, uint32_t reader, uint32_t *why);
 uint32_t uapubsub_reader_number(struct uap_handle *handle, uint32_t group, uint32_t reader, uint16_t *number);
+uint32_t uapubsub_reader_age(struct uap_handle *handle, uint32_t group, uint32_t reader, uint64_t now_ms, uint64_t *age_ms);
+uint32_t uapubsub_reader_is_fresh(struct uap_handle *handle, uint32_t group, uint32_t reader, uint64_t now_ms, uint64_t bound_ms);
+uint32_t uapubsub_reader_last_fault(struct uap_handle *handle, uint32_t group, uint32_t reader, struct uap_fault *fault);
+uint32_t uapubsub_reader_passed(struct uap_handle *handle, uint32_t group, uint32_t reader, struct uap_passed *passed);
+uint32_t uapubsub_read_group_refused(struct uap_handle *handle, uint32_t group, struct uap_refused *refused);
+uint32_t uapubsub_read_group_only(struct uap_handle *handle, uint32_t group, uint16_t number);
+uint32_t uapubsub_subscriber_due(struct uap_handle *handle, uint64_t now_ms, uint64_t *moment_ms);
 uint32_t uapubsub_set_word(struct uap_handle *handle, uint32_t set, uint32_t field, uint32_t kind, uint64_t word);
 uint32_t uapubsub_set_text(struct uap_handle *handle, uint32_t set, uint32_t field, const uint8_t *text, size_t length);
 uint32_t uapubsub_set_bytes(struct uap_handle *handle, uint32_t set, uint32_t field, const uint8_t *bytes, size_t length);
@@ -291,7 +358,7 @@ UAP_LISTS(reader, UAP_READERS)
 #undef UAP_LISTS
 
 /* What a field of a data set is: its kind, its cap, and whether its values have statuses. */
-static inline uint32_t uap_field_info(struct uap_handle *handle, uint32_t set, uint32_t field, struct uap_field_info *info) {
+static inline uint32_t uap_field_info(struct uap_handle *handle, uint32_t set, uint32_t field, struct uap_field *info) {
     if (handle == NULL || info == NULL) return UAP_NULL;
     return uapubsub_field_info(handle, set, field, info);
 }
@@ -323,6 +390,7 @@ static inline const char *uap_status_name(uint32_t status) {
         UAP_NAMED(UAP_EARLIER_TOKEN);
         UAP_NAMED(UAP_NUMBERS_AGAIN);
         UAP_NAMED(UAP_NO_KIND);
+        UAP_NAMED(UAP_STALE);
         UAP_NAMED(UAP_HEADER_SHORT);
         UAP_NAMED(UAP_VERSION);
         UAP_NAMED(UAP_DISCOVERY);
@@ -355,6 +423,30 @@ static inline const char *uap_why_name(uint32_t why) {
         UAP_NAMED(UAP_WHY_NEW_TOKEN);
         UAP_NAMED(UAP_WHY_JUMP);
         UAP_NAMED(UAP_WHY_RESTARTED);
+        default: return "?";
+    }
+}
+
+/* The name of a fault of a part, as it stands above: "UAP_FAULT_KIND"; "?" where there is none. */
+static inline const char *uap_fault_name(uint32_t fault) {
+    switch (fault) {
+        UAP_NAMED(UAP_FAULT_NONE);
+        UAP_NAMED(UAP_FAULT_SHORT);
+        UAP_NAMED(UAP_FAULT_ENCODING);
+        UAP_NAMED(UAP_FAULT_KIND);
+        UAP_NAMED(UAP_FAULT_VALUE);
+        UAP_NAMED(UAP_FAULT_INDEX);
+        UAP_NAMED(UAP_FAULT_COUNT);
+        UAP_NAMED(UAP_FAULT_TRAILING);
+        UAP_NAMED(UAP_FAULT_NOT_VALID);
+        UAP_NAMED(UAP_FAULT_EVENT);
+        UAP_NAMED(UAP_FAULT_RESERVED);
+        UAP_NAMED(UAP_FAULT_CHUNK);
+        UAP_NAMED(UAP_FAULT_CHUNK_LENGTH);
+        UAP_NAMED(UAP_FAULT_TOO_LONG);
+        UAP_NAMED(UAP_FAULT_RANGE);
+        UAP_NAMED(UAP_FAULT_DIFFERS);
+        UAP_NAMED(UAP_FAULT_MISSING);
         default: return "?";
     }
 }
@@ -450,6 +542,76 @@ static inline uint32_t uap_writer_disable(struct uap_handle *handle, uint32_t gr
 static inline uint32_t uap_publisher_next(struct uap_handle *handle, uint64_t now_ms, void *buffer, size_t room, size_t *length) {
     if (handle == NULL || buffer == NULL || length == NULL) return UAP_NULL;
     return uapubsub_publisher_next(handle, now_ms, UAP_BYTES(buffer), room, length);
+}
+
+/* The first moment from `now_ms` on at which uap_publisher_next has something to do: a group is due that may have its turn, or a key's moment
+ * comes. It is `now_ms` where a datagram waits. UAP_NONE: never. So a loop knows how long it may sleep. */
+static inline uint32_t uap_publisher_due(struct uap_handle *handle, uint64_t now_ms, uint64_t *moment_ms) {
+    if (handle == NULL || moment_ms == NULL) return UAP_NULL;
+    return uapubsub_publisher_due(handle, now_ms, moment_ms);
+}
+
+/* The index of the group that the datagram is of which uap_publisher_next gave last: where groups send to several addresses. */
+static inline uint32_t uap_publisher_group(struct uap_handle *handle, uint32_t *group) {
+    if (handle == NULL || group == NULL) return UAP_NULL;
+    return uapubsub_publisher_group(handle, group);
+}
+
+/* UAP_OK: the group may have a turn. UAP_SPENT: it may have none, as uap_publisher_next says of one that is due. */
+static inline uint32_t uap_group_may_turn(struct uap_handle *handle, uint32_t group) {
+    if (handle == NULL) return UAP_NULL;
+    return uapubsub_group_may_turn(handle, group);
+}
+
+/* Gets a scalar field of the publisher's own row, as it was set last: its word by the number of its kind. */
+static inline uint32_t uap_own_word(struct uap_handle *handle, uint32_t set, uint32_t field, uint32_t kind, uint64_t *word) {
+    if (handle == NULL || word == NULL) return UAP_NULL;
+    return uapubsub_own_word(handle, set, field, kind, word);
+}
+
+/* The same for each kind, with its own type: uap_own_bool(handle, set, field, &value) and so on. */
+#define UAP_OWNS(name, type, width, kind)                                                                               \
+    static inline uint32_t uap_own_##name(struct uap_handle *handle, uint32_t set, uint32_t field, type *value) {       \
+        uint64_t word = 0;                                                                                              \
+        if (value == NULL) return UAP_NULL;                                                                             \
+        uint32_t status = uap_own_word(handle, set, field, kind, &word);                                                \
+        if (status == UAP_OK) *value = UAP_CAST(type, UAP_CAST(width, word));                                           \
+        return status;                                                                                                  \
+    }
+UAP_OWNS(bool, bool, uint8_t, UAP_BOOLEAN)
+UAP_OWNS(i8, int8_t, uint8_t, UAP_SBYTE)
+UAP_OWNS(u8, uint8_t, uint8_t, UAP_BYTE)
+UAP_OWNS(i16, int16_t, uint16_t, UAP_INT16)
+UAP_OWNS(u16, uint16_t, uint16_t, UAP_UINT16)
+UAP_OWNS(i32, int32_t, uint32_t, UAP_INT32)
+UAP_OWNS(u32, uint32_t, uint32_t, UAP_UINT32)
+UAP_OWNS(i64, int64_t, uint64_t, UAP_INT64)
+UAP_OWNS(u64, uint64_t, uint64_t, UAP_UINT64)
+UAP_OWNS(f32_bits, uint32_t, uint32_t, UAP_FLOAT)
+UAP_OWNS(f64_bits, uint64_t, uint64_t, UAP_DOUBLE)
+UAP_OWNS(date_time, int64_t, uint64_t, UAP_DATE_TIME)
+UAP_OWNS(status_code, uint32_t, uint32_t, UAP_STATUS_CODE)
+#undef UAP_OWNS
+
+/* A text, bytes, a Guid and the status of a field of the publisher's own row, as uap_get_text and its like get those of a reader's. */
+static inline uint32_t uap_own_text(struct uap_handle *handle, uint32_t set, uint32_t field, char *buffer, size_t room, size_t *length) {
+    if (handle == NULL || buffer == NULL || length == NULL) return UAP_NULL;
+    return uapubsub_own_text(handle, set, field, UAP_BYTES(buffer), room, length);
+}
+
+static inline uint32_t uap_own_bytes(struct uap_handle *handle, uint32_t set, uint32_t field, void *buffer, size_t room, size_t *length) {
+    if (handle == NULL || buffer == NULL || length == NULL) return UAP_NULL;
+    return uapubsub_own_bytes(handle, set, field, UAP_BYTES(buffer), room, length);
+}
+
+static inline uint32_t uap_own_guid(struct uap_handle *handle, uint32_t set, uint32_t field, struct uap_guid *guid) {
+    if (handle == NULL || guid == NULL) return UAP_NULL;
+    return uapubsub_own_guid(handle, set, field, guid);
+}
+
+static inline uint32_t uap_own_field_status(struct uap_handle *handle, uint32_t set, uint32_t field, uint32_t *status) {
+    if (handle == NULL || status == NULL) return UAP_NULL;
+    return uapubsub_own_field_status(handle, set, field, status);
 }
 
 /* The token in use of a key group, and the number used last under it: what a device stores, with room above, before it sends. */
@@ -605,6 +767,49 @@ static inline uint32_t uap_reader_why(struct uap_handle *handle, uint32_t group,
 static inline uint32_t uap_reader_number(struct uap_handle *handle, uint32_t group, uint32_t reader, uint16_t *number) {
     if (handle == NULL || number == NULL) return UAP_NULL;
     return uapubsub_reader_number(handle, group, reader, number);
+}
+
+/* How many milliseconds ago the row that a reader holds was confirmed: by the last message that it took with none missing before it, a
+ * keep-alive too. UAP_NONE where it holds none. A machine rests on this, and not on timeouts: where key frames are lost, each other message
+ * begins the timeout anew. */
+static inline uint32_t uap_reader_age(struct uap_handle *handle, uint32_t group, uint32_t reader, uint64_t now_ms, uint64_t *age_ms) {
+    if (handle == NULL || age_ms == NULL) return UAP_NULL;
+    return uapubsub_reader_age(handle, group, reader, now_ms, age_ms);
+}
+
+/* UAP_OK: the reader holds a row that was confirmed at most `bound_ms` ago. UAP_STALE: it holds an older one. UAP_NONE: it holds none. */
+static inline uint32_t uap_reader_is_fresh(struct uap_handle *handle, uint32_t group, uint32_t reader, uint64_t now_ms, uint64_t bound_ms) {
+    if (handle == NULL) return UAP_NULL;
+    return uapubsub_reader_is_fresh(handle, group, reader, now_ms, bound_ms);
+}
+
+/* The first moment from `now_ms` on at which a reader's timeout passes: call uap_subscriber_expire then. UAP_NONE: never. */
+static inline uint32_t uap_subscriber_due(struct uap_handle *handle, uint64_t now_ms, uint64_t *moment_ms) {
+    if (handle == NULL || moment_ms == NULL) return UAP_NULL;
+    return uapubsub_subscriber_due(handle, now_ms, moment_ms);
+}
+
+/* Why a reader isn't read: its parts that couldn't be read, what it passed over, and what its read group refused. */
+static inline uint32_t uap_reader_last_fault(struct uap_handle *handle, uint32_t group, uint32_t reader, struct uap_fault *fault) {
+    if (handle == NULL || fault == NULL) return UAP_NULL;
+    return uapubsub_reader_last_fault(handle, group, reader, fault);
+}
+
+static inline uint32_t uap_reader_passed(struct uap_handle *handle, uint32_t group, uint32_t reader, struct uap_passed *passed) {
+    if (handle == NULL || passed == NULL) return UAP_NULL;
+    return uapubsub_reader_passed(handle, group, reader, passed);
+}
+
+static inline uint32_t uap_read_group_refused(struct uap_handle *handle, uint32_t group, struct uap_refused *refused) {
+    if (handle == NULL || refused == NULL) return UAP_NULL;
+    return uapubsub_read_group_refused(handle, group, refused);
+}
+
+/* A read group takes datagrams of this NetworkMessageNumber alone, of any where it is 0, as at first. Others are UAP_NOT_OURS. It is for a
+ * fixed layout whose publisher sends several NetworkMessages in a cycle: without it a reader takes any of them at its offset. */
+static inline uint32_t uap_read_group_only(struct uap_handle *handle, uint32_t group, uint16_t number) {
+    if (handle == NULL) return UAP_NULL;
+    return uapubsub_read_group_only(handle, group, number);
 }
 
 /* All datagrams that are due, laid one behind another into `buffer`, with their lengths, at most `most`. Whatever the status but UAP_NULL,

@@ -27,6 +27,10 @@ enum { CONFIG_BYTES = 1 << 20, DATAGRAM_BYTES = 65536, NAME_BYTES = 4096, LINE_B
 // datagrams it receives at most: a peer that sends without a pause must not keep it from turns and timers.
 enum { ROUND_MS = 10, MOST_A_ROUND = 64 };
 
+// How old the first reader's row may be where this device's machine runs, in milliseconds: with an older one, or none, it is in its safe state.
+// A timeout alone doesn't do: where key frames are lost each other message begins it anew (docs/C.md).
+enum { FRESH_MS = 1000 };
+
 // How many numbers are passed over at a start, so that a signed reader takes the next key frame, and how many are reserved at once.
 enum { START = 16384, RESERVED = 65536 };
 
@@ -58,8 +62,12 @@ struct device {
     char numbers[NAME_BYTES];
     uint32_t token, reserved;
     bool spent;
-    // the line that was printed last
+    // the read groups, and the name of the first reader
+    uint32_t read_groups;
+    char reader[UAP_NAME_ROOM];
+    // the line that was printed last, and the status that the machine goes by: it runs with UAP_OK alone
     char shown[LINE_BYTES];
+    uint32_t fresh;
     struct counts counts;
 };
 
@@ -110,6 +118,10 @@ static void open_sides(struct device *device, size_t length) {
     }
     if (uap_publisher_open(&device->publisher, text, length) != UAP_OK) fail("cannot open the publisher");
     if (uap_subscriber_open(&device->subscriber, text, length) != UAP_OK) fail("cannot open the subscriber");
+    size_t read_groups;
+    if (uap_read_group_count(&device->subscriber, &read_groups) != UAP_OK) fail("cannot open the subscriber");
+    device->read_groups = (uint32_t)read_groups;
+    if (uap_reader_name(&device->subscriber, 0, 0, device->reader, sizeof device->reader) != UAP_OK) strcpy(device->reader, "no reader");
     for (int i = 0; i < FIELDS; i++)
         if (uap_field_index(&device->publisher, 0, FIELD_NAMES[i], &device->field[i]) != UAP_OK) device->field[i] = NO_FIELD;
 }
@@ -255,10 +267,9 @@ static void publish(struct device *device, uint64_t now) {
 static void take(struct device *device, uint64_t now, size_t length) {
     struct counts *counts = &device->counts;
     struct uap_taken taken;
-    for (uint32_t group = 0;; group++) {
+    for (uint32_t group = 0; group < device->read_groups; group++) {
         memcpy(copy, datagram, length);
         uint32_t status = uap_subscriber_datagram(&device->subscriber, group, now, copy, length, &taken);
-        if (status == UAP_INDEX) return;
         if (status != UAP_OK && status < UAP_HEADER_SHORT) fail("cannot subscribe");
         if (status == UAP_OK) counts->taken++;
         if (status == UAP_OK && taken.bad > 0) counts->unreadable++;
@@ -276,6 +287,15 @@ static void receive(struct device *device, uint64_t now) {
     if (uap_subscriber_expire(&device->subscriber, now) != UAP_OK) fail("cannot subscribe");
 }
 
+// Has the machine run while the first reader's row is fresh, and takes it to its safe state where it isn't.
+static void steer(struct device *device, uint64_t now) {
+    uint32_t fresh = uap_reader_is_fresh(&device->subscriber, 0, 0, now, FRESH_MS);
+    if (fresh == device->fresh) return;
+    device->fresh = fresh;
+    if (fresh == UAP_OK) puts("the machine runs");
+    else printf("the machine is in its safe state: %s of %s\n", uap_status_name(fresh), device->reader);
+}
+
 // Prints the row that the first reader holds, or why it holds none (UAP_WHY_..), where that isn't what was printed last.
 static void show(struct device *device) {
     struct uap_handle *subscriber = &device->subscriber;
@@ -283,7 +303,7 @@ static void show(struct device *device) {
     uint32_t why, reading;
     char celsius[256], line[LINE_BYTES] = "";
     size_t length;
-    if (uap_reader_why(subscriber, 0, 0, &why) == UAP_NONE) snprintf(line, sizeof line, "no row, reason %" PRIu32, why);
+    if (uap_reader_why(subscriber, 0, 0, &why) == UAP_NONE) snprintf(line, sizeof line, "no row: %s", uap_why_name(why));
     uap_reader_number(subscriber, 0, 0, &number);
     if (uap_get_u32(subscriber, 0, 0, device->field[READING], &reading) == UAP_OK &&
         uap_get_text(subscriber, 0, 0, device->field[CELSIUS], celsius, sizeof celsius, &length) == UAP_OK)
@@ -301,6 +321,7 @@ static void run(struct device *device, uint64_t until) {
         if (poll(&ready, 1, ROUND_MS) < 0 && errno != EINTR) fail("cannot wait");
         now = milliseconds_since(&device->begun);
         receive(device, now);
+        steer(device, now);
         show(device);
         sample(device, now);
         publish(device, now);
@@ -320,8 +341,8 @@ int main(int count, char **words) {
     setvbuf(stdout, NULL, _IOLBF, 0);
     clock_gettime(CLOCK_MONOTONIC, &device.begun);
     run(&device, (uint64_t)seconds * 1000);
-    printf("sent %lu, failed %lu, taken %lu, unreadable %lu, not ours %lu, refused %lu (last reason %" PRIu32 ")\n", counts->sent, counts->failed,
-           counts->taken, counts->unreadable, counts->others, counts->refused, counts->last_refusal);
+    printf("sent %lu, failed %lu, taken %lu, unreadable %lu, not ours %lu, refused %lu (last reason %s)\n", counts->sent, counts->failed,
+           counts->taken, counts->unreadable, counts->others, counts->refused, uap_status_name(counts->last_refusal));
     uap_close(&device.publisher);
     uap_close(&device.subscriber);
     close(device.socket);

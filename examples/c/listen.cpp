@@ -34,6 +34,9 @@ public:
         if (uap_config_check(text.data(), text.size(), line, sizeof line, &written) == UAP_REFUSED)
             throw std::runtime_error(std::string(line, written));
         if (uap_subscriber_open(&handle, text.data(), text.size()) != UAP_OK) throw std::runtime_error("cannot open the subscriber");
+        std::size_t count = 0;
+        if (uap_read_group_count(&handle, &count) != UAP_OK) throw std::runtime_error("cannot open the subscriber");
+        groups = static_cast<std::uint32_t>(count);
     }
     ~Subscriber() { uap_close(&handle); }
     Subscriber(const Subscriber &) = delete;
@@ -43,13 +46,13 @@ public:
     bool datagram(std::uint64_t now, const std::uint8_t *bytes, std::size_t length) {
         uap_taken taken = {};
         bool is_taken = false;
-        for (std::uint32_t group = 0;; group++) {
+        for (std::uint32_t group = 0; group < groups; group++) {
             copy.assign(bytes, bytes + length);
             const std::uint32_t status = uap_subscriber_datagram(&handle, group, now, copy.data(), length, &taken);
-            if (status == UAP_INDEX) return is_taken;
             if (status != UAP_OK && status < UAP_HEADER_SHORT) throw std::runtime_error("cannot subscribe");
             if (status == UAP_OK) is_taken = true;
         }
+        return is_taken;
     }
 
     void expire(std::uint64_t now) {
@@ -83,6 +86,7 @@ public:
 
 private:
     uap_handle handle = UAP_CLOSED_HANDLE;
+    std::uint32_t groups = 0;
     std::vector<std::uint8_t> copy = std::vector<std::uint8_t>(65536);
 };
 

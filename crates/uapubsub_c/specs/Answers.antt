@@ -92,12 +92,14 @@ module _ {F : Type 0} where
   -- it may be called with each publisher, and leaves one
   pub record MovesPublisher (g : Once F (MutBor PublisherValue × Unit {0}) (Result Unit Status × (MutBor PublisherValue × Unit {0}))) (f : F) : Type 0 where
     pub callable : (shown : MutBor PublisherValue) → IsPublisher shown.now → g.pre f (shown, tt)
-    pub leaves : (old : PublisherValue) (answer : Result Unit Status) (new : PublisherValue) → IsPublisher old → FnOnceReturnsAtMut g f old answer new → IsPublisher new
+    pub leaves : (old : PublisherValue) (answer : Result Unit Status) (new : PublisherValue)
+        → IsPublisher old → FnOnceReturnsAtMut g f old answer new → IsPublisher new
 
   -- it may be called with each subscriber, and leaves one
   pub record MovesSubscriber (g : Once F (MutBor SubscriberValue × Unit {0}) (Result Unit Status × (MutBor SubscriberValue × Unit {0}))) (f : F) : Type 0 where
     pub callable : (shown : MutBor SubscriberValue) → IsSubscriber shown.now → g.pre f (shown, tt)
-    pub leaves : (old : SubscriberValue) (answer : Result Unit Status) (new : SubscriberValue) → IsSubscriber old → FnOnceReturnsAtMut g f old answer new → IsSubscriber new
+    pub leaves : (old : SubscriberValue) (answer : Result Unit Status) (new : SubscriberValue)
+        → IsSubscriber old → FnOnceReturnsAtMut g f old answer new → IsSubscriber new
 
   -- it may be called with each publisher, or subscriber
   pub record AsksPublisher {T : Type 0} (g : Once F (Bor PublisherValue × Unit {0}) (Result T Status)) (f : F) : Type 0 where

@@ -70,7 +70,8 @@ abbrev pub IsWordUntold : ℕ → ℕ → ℕ → ℕ → Subscriber → Status 
 IsWordUntold group reader field number subscriber NoKind = kind_with number ≡ None
 IsWordUntold group reader field number subscriber Index = HasNoField group reader field subscriber
 IsWordUntold group reader field number subscriber Nothing = Keeps group reader HoldsNone subscriber
-IsWordUntold group reader field number subscriber Misfit = (kind : Kind) × (kind_with number ≡ Some kind) × Keeps group reader (IsOfOtherKind field kind) subscriber
+IsWordUntold group reader field number subscriber Misfit =
+    (kind : Kind) × (kind_with number ≡ Some kind) × Keeps group reader (IsOfOtherKind field kind) subscriber
 IsWordUntold group reader field number subscriber other = ⊥
 
 abbrev pub TellsWord : ℕ → ℕ → ℕ → ℕ → Subscriber → Result ℕ Status → Type 0

@@ -1,3 +1,4 @@
+pub mod Aging
 pub mod Answers
 pub mod Getting
 pub mod Handles
@@ -7,8 +8,10 @@ pub mod Laying
 pub mod Lines
 pub mod Listing
 pub mod Nexts
+pub mod Noticing
 pub mod Numbers
 pub mod Opening
+pub mod Owning
 pub mod Reading
 pub mod Setting
 pub mod Switching

@@ -83,7 +83,8 @@ TellsIndex number of name config answer =
 
 abbrev pub TellsName : ℕ → ℕ → ℕ → Config → Result (List ℕ) Status → Type 0
 TellsName number of index config answer =
-    Answers (λ name. OfList number (λ list. IsNamed config list of index name)) (IsNot number (λ list. (name : List ℕ) × IsNamed config list of index name)) answer
+    Answers (λ name. OfList number (λ list. IsNamed config list of index name))
+    (IsNot number (λ list. (name : List ℕ) × IsNamed config list of index name)) answer
 
 -- C sees this of the name
 pub record GetsName (number of index : ℕ) (old : Handle) (sees : Result (List ℕ) Status → Type 0) (new : Handle) : Type 0 where

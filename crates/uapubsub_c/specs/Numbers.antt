@@ -6,10 +6,14 @@ use Rattle.uadp_header.specs.declared.fault.HeaderFault.{HeaderFault}
 use Rattle.uadp_header.specs.declared.fault.HeaderFault.TheVariants as headers
 use Rattle.message_guard.specs.declared.open_fault.OpenFault.{OpenFault}
 use Rattle.message_guard.specs.declared.open_fault.OpenFault.TheVariants as guards
+use Rattle.chunker.specs.declared.payload.ChunkFault.TheVariants as chunks
+use Rattle.frame_codec.specs.declared.fault.FrameFault.TheVariants as frames
+use Rattle.reader_group.specs.declared.notice.PartFault.{PartFault}
+use Rattle.reader_group.specs.declared.notice.PartFault.TheVariants as parts
 use Rattle.reader_group.specs.declared.refusal.Refusal.{Refusal}
 use Rattle.reader_group.specs.declared.refusal.Refusal.TheVariants as refusals
 use Rattle.uapubsub_c.specs.declared.status.Status.{Status}
-use Rattle.uapubsub_c.specs.declared.status.Status.TheVariants.{BadText, Closed, Datagram, EarlierToken, Index, ManyKeys, Memory, Misfit, NoKind, NoRing, Nothing, NumbersAgain, Opened, OtherSide, Refused, Room, Spent}
+use Rattle.uapubsub_c.specs.declared.status.Status.TheVariants.{BadText, Closed, Datagram, EarlierToken, Index, ManyKeys, Memory, Misfit, NoKind, NoRing, Nothing, NumbersAgain, Opened, OtherSide, Refused, Room, Spent, Stale}
 
 -- why a reader holds no row
 abbrev pub why_number : Why → ℕ
@@ -48,6 +52,25 @@ refusal_number refusals.NoIds = 111
 refusal_number refusals.BadSizes = 112
 refusal_number (refusals.Guard fault) = guard_number fault
 
+-- why a part of a reader couldn't be read
+abbrev pub fault_number : PartFault → ℕ
+fault_number (parts.Frame frames.Short) = 1
+fault_number (parts.Frame frames.BadEncoding) = 2
+fault_number (parts.Frame frames.KindOut) = 3
+fault_number (parts.Frame frames.BadValue) = 4
+fault_number (parts.Frame (frames.BadIndex got)) = 5
+fault_number (parts.Frame (frames.WrongCount got)) = 6
+fault_number (parts.Frame frames.Trailing) = 7
+fault_number (parts.Frame frames.NotValid) = 8
+fault_number (parts.Frame frames.EventOut) = 9
+fault_number (parts.Frame frames.ReservedBits) = 10
+fault_number (parts.Chunk chunks.Short) = 20
+fault_number (parts.Chunk chunks.BadLength) = 21
+fault_number (parts.TooLong total) = 22
+fault_number (parts.BadRange offset total) = 23
+fault_number (parts.Differs first now) = 24
+fault_number parts.Missing = 30
+
 -- why a call didn't do what it says
 abbrev pub status_number : Status → ℕ
 status_number Nothing = 1
@@ -66,6 +89,7 @@ status_number NoRing = 14
 status_number EarlierToken = 15
 status_number NumbersAgain = 16
 status_number NoKind = 17
+status_number Stale = 18
 status_number (Datagram refusal) = refusal_number refusal
 
 -- an answer: UAP_OK is 0

@@ -84,7 +84,7 @@ pub extern "C" fn uapubsub_get_text(
 }
 
 /// Lays the bytes of an answer that is a String.
-fn lay_text(answer: &Result<(Value, u32), Status>, buffer: &mut [u8], count: &mut usize) -> u32
+pub fn lay_text(answer: &Result<(Value, u32), Status>, buffer: &mut [u8], count: &mut usize) -> u32
     ensures { LaysText answer.now result buffer.old buffer.new count.old count.new }
 {
     match answer {
@@ -116,7 +116,7 @@ pub extern "C" fn uapubsub_get_bytes(
 }
 
 /// Lays the bytes of an answer that is a ByteString.
-fn lay_blob(answer: &Result<(Value, u32), Status>, buffer: &mut [u8], count: &mut usize) -> u32
+pub fn lay_blob(answer: &Result<(Value, u32), Status>, buffer: &mut [u8], count: &mut usize) -> u32
     ensures { LaysBlob answer.now result buffer.old buffer.new count.old count.new }
 {
     match answer {
@@ -147,7 +147,7 @@ pub extern "C" fn uapubsub_get_guid(
 }
 
 /// Tells an answer that is a Guid.
-fn tell_guid(answer: &Result<(Value, u32), Status>, guid: &mut GuidBytes) -> u32
+pub fn tell_guid(answer: &Result<(Value, u32), Status>, guid: &mut GuidBytes) -> u32
     ensures { SeesGuid answer.now result guid.old guid.new }
 {
     match answer {

@@ -2,6 +2,7 @@
 //! `include/uapubsub.h` declares what stands here.
 #![tactic(auto)]
 
+mod aging;
 mod checking;
 mod closing;
 mod getting;
@@ -15,6 +16,8 @@ mod laying;
 mod listed;
 mod listing;
 mod loose;
+mod noticing;
+mod owning;
 mod publishing;
 mod refusals;
 mod setting;
@@ -23,6 +26,7 @@ mod status;
 mod subscribing;
 mod switching;
 
+pub use aging::{uapubsub_reader_age, uapubsub_reader_is_fresh, uapubsub_subscriber_due};
 pub use checking::uapubsub_config_check;
 pub use closing::uapubsub_close;
 pub use getting::{
@@ -34,6 +38,14 @@ pub use handle::Handle;
 pub use keys::KeySetWords;
 pub use listed::Listed;
 pub use listing::{FieldInfo, uapubsub_count, uapubsub_field_info, uapubsub_index, uapubsub_name};
+pub use noticing::{
+    FaultWords, PassedWords, RefusedWords, uapubsub_read_group_only, uapubsub_read_group_refused,
+    uapubsub_reader_last_fault, uapubsub_reader_passed,
+};
+pub use owning::{
+    uapubsub_group_may_turn, uapubsub_own_bytes, uapubsub_own_field_status, uapubsub_own_guid,
+    uapubsub_own_text, uapubsub_own_word, uapubsub_publisher_due, uapubsub_publisher_group,
+};
 pub use publishing::{
     uapubsub_publisher_next, uapubsub_publisher_open, uapubsub_publisher_renew,
     uapubsub_publisher_resume, uapubsub_publisher_resume_with, uapubsub_publisher_standing,

@@ -40,7 +40,8 @@ pub extern "C" fn uapubsub_count(
     count: &mut usize,
 ) -> u32
     requires { IsReady handle.old }
-    ensures { Asks (OfConfig (TellsCount list of)) handle.old result count.old count.new handle.new }
+    ensures { Asks (OfConfig (TellsCount list of))
+        handle.old result count.old count.new handle.new }
 {
     let answer = handle.ask_config(alloc, |config| count_of(config, list, of));
     tell(answer, count)

@@ -40,6 +40,8 @@ pub enum Status {
     NumbersAgain,
     /// No kind, or no list, has this number.
     NoKind,
+    /// The row that is held is older than that.
+    Stale,
     /// The datagram is refused.
     Datagram(Refusal),
 }
@@ -66,6 +68,7 @@ impl Status {
             Status::EarlierToken => 15,
             Status::NumbersAgain => 16,
             Status::NoKind => 17,
+            Status::Stale => 18,
             Status::Datagram(refusal) => refusal_number(&refusal),
         }
     }

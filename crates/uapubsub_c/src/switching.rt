@@ -67,7 +67,8 @@ pub extern "C" fn uapubsub_reader_enable(
     reader: u32,
 ) -> u32
     requires { IsReady handle.old }
-    ensures { Calls (OfSubscriber (SwitchesReader group reader true)) handle.old result handle.new }
+    ensures { Calls (OfSubscriber (SwitchesReader group reader true))
+        handle.old result handle.new }
 {
     number_of(handle.subscriber(alloc, |subscriber| {
         switch_reader(subscriber, group, reader, true)
@@ -83,7 +84,8 @@ pub extern "C" fn uapubsub_reader_disable(
     reader: u32,
 ) -> u32
     requires { IsReady handle.old }
-    ensures { Calls (OfSubscriber (SwitchesReader group reader false)) handle.old result handle.new }
+    ensures { Calls (OfSubscriber (SwitchesReader group reader false))
+        handle.old result handle.new }
 {
     number_of(handle.subscriber(alloc, |subscriber| {
         switch_reader(subscriber, group, reader, false)
