@@ -6,7 +6,7 @@
  *   - Each pointer is to memory of the type and the length that stand beside it, which the call alone uses while it runs: an output
  *     doesn't overlap an input, another output or the handle.
  *   - malloc, realloc and free are those of one allocator, which aligns to 16.
- *   - Moments are milliseconds of one clock of the program, for each handle, and don't fall.
+ *   - Moments are milliseconds of one clock of the program, for each handle, and don't fall: use one that can't be set back.
  *
  * Indexes count from 0, in the configuration's order. One past 255 is answered UAP_INDEX, as any that is out of range.
  *
@@ -545,13 +545,13 @@ static inline uint32_t uap_publisher_next(struct uap_handle *handle, uint64_t no
 }
 
 /* The first moment from `now_ms` on at which uap_publisher_next has something to do: a group is due that may have its turn, or a key's moment
- * comes. It is `now_ms` where a datagram waits. UAP_NONE: never. So a loop knows how long it may sleep. */
+ * comes. It is `now_ms` where a datagram waits. UAP_NONE: never. So a loop knows how long it may sleep. A spent group isn't due. */
 static inline uint32_t uap_publisher_due(struct uap_handle *handle, uint64_t now_ms, uint64_t *moment_ms) {
     if (handle == NULL || moment_ms == NULL) return UAP_NULL;
     return uapubsub_publisher_due(handle, now_ms, moment_ms);
 }
 
-/* The index of the group that the datagram is of which uap_publisher_next gave last: where groups send to several addresses. */
+/* The index of the group that the datagram is of which uap_publisher_next gave: call it right after UAP_OK. */
 static inline uint32_t uap_publisher_group(struct uap_handle *handle, uint32_t *group) {
     if (handle == NULL || group == NULL) return UAP_NULL;
     return uapubsub_publisher_group(handle, group);
@@ -770,8 +770,9 @@ static inline uint32_t uap_reader_number(struct uap_handle *handle, uint32_t gro
 }
 
 /* How many milliseconds ago the row that a reader holds was confirmed: by the last message that it took with none missing before it, a
- * keep-alive too. UAP_NONE where it holds none. A machine rests on this, and not on timeouts: where key frames are lost, each other message
- * begins the timeout anew. */
+ * keep-alive too; of a reader without numbering by the last key frame alone. UAP_NONE where it holds none. A machine rests on this, and not on
+ * timeouts: where key frames are lost, each other message begins the timeout anew. It supposes one publisher's datagrams of one life and a
+ * clock that is never set back, counts from when a datagram was handed over, and says nothing of statuses (docs/C.md). */
 static inline uint32_t uap_reader_age(struct uap_handle *handle, uint32_t group, uint32_t reader, uint64_t now_ms, uint64_t *age_ms) {
     if (handle == NULL || age_ms == NULL) return UAP_NULL;
     return uapubsub_reader_age(handle, group, reader, now_ms, age_ms);

@@ -1,28 +1,34 @@
 -- What calls tell C of the age of rows, and of timeouts.
-use Rattle.std.specs.Prelude.{ℕ, All, Result}
+use Rattle.std.specs.Prelude.{ℕ, All, None, Result}
 use Rattle.std.specs.List.{Any}
 use Rattle.device_sides.specs.Due.{AreInTime, HasTimeout, IsFirst, IsNever}
-use Rattle.device_sides.specs.Readings.{HasAge, IsFreshFor, IsStale, IsUnconfirmed}
+use Rattle.device_sides.specs.Readings.{HasAge, IsConfirmedFor, IsFreshFor, IsStale}
 use Rattle.device_sides.specs.declared.subscriber.Subscriber.{Subscriber}
 use Rattle.uapubsub_c.specs.Answers.{Answers}
 use Rattle.uapubsub_c.specs.Reading.{HasNoReader}
 use Rattle.uapubsub_c.specs.declared.status.Status.{Status}
 use Rattle.uapubsub_c.specs.declared.status.Status.TheVariants.{Index, Nothing, Stale}
 
--- there is no such reader, or no row that it holds was confirmed
+-- there is no such reader; or there is one, and it holds no row
 abbrev pub IsAgeless : ℕ → ℕ → Subscriber → Status → Type 0
 IsAgeless group reader subscriber Index = HasNoReader group reader subscriber
-IsAgeless group reader subscriber Nothing = IsUnconfirmed group reader subscriber
+IsAgeless group reader subscriber Nothing = IsConfirmedFor group reader None subscriber
 IsAgeless group reader subscriber other = ⊥
 
 abbrev pub TellsAge : ℕ → ℕ → ℕ → Subscriber → Result ℕ Status → Type 0
 TellsAge group reader now subscriber answer = Answers (λ age. HasAge group reader now age subscriber) (IsAgeless group reader subscriber) answer
 
--- there is no such reader; it holds no row; or it holds one that is older than the bound
+-- a row is held, and it is older than the bound
+pub record IsTooOld (group reader now bound : ℕ) (subscriber : Subscriber) : Type 0 where
+  pub age : ℕ
+  pub has : HasAge group reader now age subscriber
+  pub stale : IsStale group reader now bound subscriber
+
+-- there is no such reader; there is one that holds no row; or it holds one that is older than the bound
 abbrev pub IsUnfresh : ℕ → ℕ → ℕ → ℕ → Subscriber → Status → Type 0
 IsUnfresh group reader now bound subscriber Index = HasNoReader group reader subscriber
-IsUnfresh group reader now bound subscriber Nothing = IsUnconfirmed group reader subscriber
-IsUnfresh group reader now bound subscriber Stale = IsStale group reader now bound subscriber
+IsUnfresh group reader now bound subscriber Nothing = IsConfirmedFor group reader None subscriber
+IsUnfresh group reader now bound subscriber Stale = IsTooOld group reader now bound subscriber
 IsUnfresh group reader now bound subscriber other = ⊥
 
 abbrev pub TellsFresh : ℕ → ℕ → ℕ → ℕ → Subscriber → Result Unit Status → Type 0

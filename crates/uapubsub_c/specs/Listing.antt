@@ -55,17 +55,17 @@ IsNamed config Writers of index name = HasAt (λ group. HasAt (λ writer. writer
 IsNamed config ReadGroups of index name = HasAt (λ group. group.name ≡ name) config.readgroup index
 IsNamed config Readers of index name = HasAt (λ group. HasAt (λ reader. reader.name ≡ name) group.reader index) config.readgroup of
 
--- no list has this number; or the one that has it isn't so
-abbrev pub IsNot : ℕ → (Listed → Type 0) → Status → Type 0
-IsNot number says NoKind = list_with number ≡ None
-IsNot number says Index = (list : Listed) → list_with number ≡ Some list → ¬ says list
-IsNot number says other = ⊥
-
 -- of the list with this number it's so
 pub record OfList (number : ℕ) (says : Listed → Type 0) : Type 0 where
   pub list : Listed
   pub list_is : list_with number ≡ Some list
   pub is : says list
+
+-- no list has this number; or there is one that has it, and it isn't so
+abbrev pub IsNot : ℕ → (Listed → Type 0) → Status → Type 0
+IsNot number says NoKind = list_with number ≡ None
+IsNot number says Index = OfList number (λ list. ¬ says list)
+IsNot number says other = ⊥
 
 abbrev pub TellsCount : ℕ → ℕ → Config → Result ℕ Status → Type 0
 TellsCount number of config answer =
