@@ -19,8 +19,24 @@ static const char *const reasons[] = {
     [UAP_WHY_JUMP] = "jump", [UAP_WHY_RESTARTED] = "restarted",
 };
 
+static const struct {
+    const char *name;
+    uint32_t fault;
+} faults[] = {
+    {"-", UAP_FAULT_NONE}, {"Short", UAP_FAULT_SHORT}, {"BadEncoding", UAP_FAULT_ENCODING}, {"KindOut", UAP_FAULT_KIND},
+    {"BadValue", UAP_FAULT_VALUE}, {"BadIndex", UAP_FAULT_INDEX}, {"WrongCount", UAP_FAULT_COUNT}, {"Trailing", UAP_FAULT_TRAILING},
+    {"NotValid", UAP_FAULT_NOT_VALID}, {"EventOut", UAP_FAULT_EVENT}, {"ReservedBits", UAP_FAULT_RESERVED}, {"ChunkShort", UAP_FAULT_CHUNK},
+    {"ChunkBadLength", UAP_FAULT_CHUNK_LENGTH}, {"TooLong", UAP_FAULT_TOO_LONG}, {"BadRange", UAP_FAULT_RANGE},
+    {"Differs", UAP_FAULT_DIFFERS}, {"Missing", UAP_FAULT_MISSING},
+};
+
+static const struct {
+    const char *name;
+    uint32_t type;
+} id_types[] = {{"-", 0}, {"Byte", UAP_BYTE}, {"UInt16", UAP_UINT16}, {"UInt32", UAP_UINT32}, {"UInt64", UAP_UINT64}, {"String", UAP_STRING}};
+
 static struct uap_handle subscriber = UAP_CLOSED_HANDLE, publisher = UAP_CLOSED_HANDLE;
-static unsigned line_number, datagrams, rows, wrong;
+static unsigned line_number, datagrams, rows, notes, wrong;
 
 // What the line wants, and what is so.
 static void differs(const char *wanted, const char *got) {
@@ -157,6 +173,70 @@ static void waits_for(char **words) {
     if (strcmp(got, words[3]) != 0) differs(words[3], got);
 }
 
+// ---- why a peer isn't read
+
+// The word of a fault, as the table has it.
+static void fault_word(const struct uap_fault *fault, char *word, size_t room) {
+    const char *name = "?";
+    for (size_t i = 0; i < sizeof faults / sizeof *faults; i++)
+        if (faults[i].fault == fault->fault) name = faults[i].name;
+    bool has_got = strcmp(name, "WrongCount") == 0 || strcmp(name, "BadIndex") == 0 || strcmp(name, "TooLong") == 0;
+    if (strcmp(name, "BadRange") == 0 || strcmp(name, "Differs") == 0) snprintf(word, room, "%s:%u/%u", name, fault->got, fault->of);
+    else if (has_got && fault->of == 0) snprintf(word, room, "%s:%u", name, fault->got);
+    else snprintf(word, room, fault->got == 0 && fault->of == 0 ? "%s" : "%s and a number", name);
+}
+
+static void noted(char **words) {
+    uint8_t group = index_of(words[1]), reader = index_of(words[2]);
+    struct uap_fault fault;
+    struct uap_passed passed;
+    char word[64], wanted[256], got[256], major[16] = "-";
+    DEMAND(uap_reader_last_fault(&subscriber, group, reader, &fault) == UAP_OK);
+    DEMAND(uap_reader_passed(&subscriber, group, reader, &passed) == UAP_OK);
+    fault_word(&fault, word, sizeof word);
+    if (strcmp(words[3], "any") == 0 && fault.fault != UAP_FAULT_NONE) snprintf(word, sizeof word, "any");
+    if (passed.has_major) snprintf(major, sizeof major, "%u", passed.major);
+    snprintf(got, sizeof got, "%s %llu %s %llu %llu %llu", word, (unsigned long long)fault.bad, major, (unsigned long long)passed.other_major,
+             (unsigned long long)passed.unnumbered, (unsigned long long)passed.older);
+    snprintf(wanted, sizeof wanted, "%s %s %s %s %s %s", words[3], words[4], words[5], words[6], words[7], words[8]);
+    notes++;
+    if (strcmp(got, wanted) != 0) differs(wanted, got);
+}
+
+// A number that is there, after a space; else a dash.
+static void add(char *text, size_t room, bool is_there, uint32_t number) {
+    size_t used = strlen(text);
+    if (is_there) snprintf(text + used, room - used, " %u", number);
+    else snprintf(text + used, room - used, number == 0 ? " -" : " a number that isn't there");
+}
+
+static void refused(char **words, int count) {
+    struct uap_refused told;
+    char wanted[256] = "", got[256];
+    DEMAND(uap_read_group_refused(&subscriber, index_of(words[1]), &told) == UAP_OK);
+    bool is_known = told.status < sizeof refusals / sizeof *refusals && refusals[told.status] != NULL;
+    snprintf(got, sizeof got, "%llu %s", (unsigned long long)told.count, is_known ? refusals[told.status] : "no refusal");
+    if (told.status == UAP_NOT_OURS) {
+        const char *type = "?";
+        for (size_t i = 0; i < sizeof id_types / sizeof *id_types; i++)
+            if (id_types[i].type == told.publisher_type) type = id_types[i].name;
+        size_t used = strlen(got);
+        bool has_id = told.publisher_type != 0 && told.publisher_type != UAP_STRING;
+        if (has_id) snprintf(got + used, sizeof got - used, " %s:%llu", type, (unsigned long long)told.publisher);
+        else snprintf(got + used, sizeof got - used, told.publisher_type == 0 ? " %s" : " %s:-", type);
+        add(got, sizeof got, told.has_group, told.group);
+        add(got, sizeof got, told.has_version, told.version);
+        add(got, sizeof got, told.has_number, told.number);
+    }
+    if (told.has_token) add(got, sizeof got, true, told.token);
+    for (int i = 2; i < count; i++) {
+        size_t used = strlen(wanted);
+        snprintf(wanted + used, sizeof wanted - used, "%s%s", i > 2 ? " " : "", words[i]);
+    }
+    notes++;
+    if (strcmp(got, wanted) != 0) differs(wanted, got);
+}
+
 static void sends(char **words) {
     struct datagram wanted = spelled(words[2]), got;
     uint32_t status = next(&publisher, strtoull(words[1], NULL, 10), &got);
@@ -201,6 +281,10 @@ static void line(char **words, int count) {
     else if (strcmp(call, "expire") == 0 && count == 2) DEMAND(uap_subscriber_expire(&subscriber, strtoull(words[1], NULL, 10)) == UAP_OK);
     else if (strcmp(call, "holds") == 0 && count >= 4) holds(words, count);
     else if (strcmp(call, "waits") == 0 && count == 4) waits_for(words);
+    else if (strcmp(call, "noted") == 0 && count == 9) noted(words);
+    else if (strcmp(call, "refused") == 0 && count >= 4) refused(words, count);
+    else if (strcmp(call, "number") == 0 && count == 3)
+        DEMAND(uap_read_group_only(&subscriber, index_of(words[1]), (uint16_t)strtoul(words[2], NULL, 10)) == UAP_OK);
     else if (strcmp(call, "set") == 0 && count == 4) set(index_of(words[1]), index_of(words[2]), words[3]);
     else if (strcmp(call, "sends") == 0 && count == 3) sends(words);
     else if (strcmp(call, "pull") == 0 && count >= 10) pull(words, count);
@@ -219,10 +303,10 @@ int main(void) {
     }
     uap_close(&subscriber);
     uap_close(&publisher);
-    if (wrong > 0 || datagrams < 60 || rows < 60) {
-        fprintf(stderr, "foreign: %u differ, of %u datagrams and %u rows\n", wrong, datagrams, rows);
+    if (wrong > 0 || datagrams < 60 || rows < 60 || notes < 60) {
+        fprintf(stderr, "foreign: %u differ, of %u datagrams, %u rows and %u notes\n", wrong, datagrams, rows, notes);
         return 1;
     }
-    printf("foreign: ok, %u datagrams, %u times a row or why there is none\n", datagrams, rows);
+    printf("foreign: ok, %u datagrams, %u times a row or why there is none, %u times what was noted or refused\n", datagrams, rows, notes);
     return 0;
 }

@@ -51,8 +51,8 @@ def tutorial_plain(t):
     t.holds("of a lower minor version", tutorial(clock(9, minor=0)), date_time(9))
     t.holds("of a greater minor version, with a field more", tutorial(clock(10, minor=2, fields=[variant(date_time(10)), variant(u32(5))])),
             date_time(10))
-    t.bad("a field more, and the same minor version", tutorial(clock(11, fields=[variant(date_time(11)), variant(u32(5))])), "WrongCount")
-    t.bad("no field, and a greater minor version", tutorial(clock(11, minor=2, fields=[])), "WrongCount")
+    t.bad("a field more, and the same minor version", tutorial(clock(11, fields=[variant(date_time(11)), variant(u32(5))])), "WrongCount:2")
+    t.bad("no field, and a greater minor version", tutorial(clock(11, minor=2, fields=[])), "WrongCount:0")
     t.bad("a count of two with one field, and a greater minor version", tutorial(clock(11, minor=2, count=2)), "Short")
     t.holds("DataValue with its source time", tutorial(clock(12, encoding=DATA_VALUE, fields=[data_value(date_time(12), source=STAMP)])),
             date_time(12))
@@ -104,7 +104,7 @@ def tutorial_fields(t):
     t.bad("a kind of message that is reserved, 4", tutorial(clock(2, kind=4)), "ReservedBits")
     t.bad("a bit of DataSetFlags2 that is reserved", tutorial(clock(2, flags2=0x40)), "ReservedBits")
     t.bad("a message that says that it isn't valid", tutorial(clock(2, valid=False)), "NotValid")
-    t.bad("an index past the fields, in a delta frame", tutorial(clock(2, kind=DELTA, indexes=[1])), "BadIndex")
+    t.bad("an index past the fields, in a delta frame", tutorial(clock(2, kind=DELTA, indexes=[1])), "BadIndex:1")
     t.holds("a value again", tutorial(clock(3)), date_time(3))
     t.case("990 ms later it is still held")
     t.expire(990)
@@ -395,6 +395,23 @@ def two_in_a_cycle(t):
     t.take(other, "taken 2 2 0", passed={0: "older", 1: "older"})
     t.case("a second NetworkMessage of one Double: its first five bytes are read as ours, and the second slot isn't there")
     t.take(controller(4, slot([Value("Double", -1.5)], 3), number=2), "taken 2 2 1", rows={0: axis(0, False)}, faults={1: "Missing"})
+    t.part("The same, for a read group that is told to take the first NetworkMessage alone")
+    t.subscriber("examples/foreign/periodic-fixed.toml", 2)
+    t.number(0, 1)
+    t.case("the first NetworkMessage")
+    t.take(axes(1), "taken 2 2 0", rows=axes_rows(1))
+    other = controller(2, slot(axis(1_000_000, False), 2), slot(motor(99), 2), number=2)
+    t.stays("the second one", other, "NOT_OURS")
+    t.stays("one without a number", controller(3, slot(axis(3, True), 3), number=None), "NOT_OURS")
+    t.stays("another group's first one", axes(3, group=4), "NOT_OURS")
+    t.stays("the first bytes of the second one", other.bytes()[:14], "HEADER_SHORT")
+    t.number(0, 2)
+    t.case("told to take the second one alone")
+    t.take(other, "taken 2 2 0", rows={0: axis(1_000_000, False), 1: motor(99)})
+    t.stays("the first one", axes(3), "NOT_OURS")
+    t.number(0, 0)
+    t.case("told to take any")
+    t.take(axes(3), "taken 2 2 0", rows=axes_rows(3))
 
 
 CONTROLLER_KEYS = Keys(4, bytes(range(32)), bytes(range(0x20, 0x40)), bytes(range(0x40, 0x44)))
@@ -461,7 +478,7 @@ def dynamic(t):
             dynamic_of(tank_message(tank(11, b"")[:1], 25, kind=DELTA, indexes=[0])), waits={0: "gap"})
     t.bad("a label of 17 bytes", dynamic_of(tank_message(tank(12, bytes(range(0x61, 0x72))), 26)), "BadValue")
     t.bad("a label that isn't UTF-8", dynamic_of(tank_message(tank(12, b"\xff"), 26)), "BadValue")
-    t.bad("a delta frame's index 2", dynamic_of(tank_message(tank(12, b"")[:1], 26, kind=DELTA, indexes=[2])), "BadIndex")
+    t.bad("a delta frame's index 2", dynamic_of(tank_message(tank(12, b"")[:1], 26, kind=DELTA, indexes=[2])), "BadIndex:2")
     t.stays("a delta frame's index 2, of a greater minor version", dynamic_of(tank_message(tank(12, b"")[:1], 26, kind=DELTA, indexes=[2],
                                                                                            minor=1)))
     t.stays("a key frame of major version 1", dynamic_of(tank_message(tank(12, b"h"), 27, major=1)), passed="major")
@@ -510,7 +527,7 @@ def s2opc(t):
     t.stays("secured", s2opc_of(row, 4, security=Security(ZERO_KEYS, bytes(4), 1)), "MODE")
     t.stays("another writer", s2opc_of(row, 4, writers=[51]), "taken 1 0 0")
     t.bad("a Byte for the Boolean", s2opc_of([Value("Byte", 1), u32(7), Value("String", b"x")], 4), "BadValue")
-    t.bad("two fields of three", s2opc_of(row[:2], 4), "WrongCount")
+    t.bad("two fields of three", s2opc_of(row[:2], 4), "WrongCount:2")
     t.holds("key frame 4", s2opc_of(measures(True, 10, b"y"), 4), *measures(True, 10, b"y"))
 
 
@@ -606,20 +623,20 @@ def chunks(t):
     t.stays("a chunk of number 3, which gives it up", chunk(3, whole[3], 0, 150))
     t.stays("a chunk of number 2 again", chunk(2, whole[2], 150, None))
     t.holds("the rest of number 3", chunk(3, whole[3], 150, None), *row[3])
-    t.bad("a chunk of no bytes", chunk(4, whole[4], 0, 0), "BadRange")
-    t.bad("a chunk past the message's size", chunk(4, whole[4], 0, 150, size=149), "BadRange")
-    t.bad("a message of 4,097 bytes", chunk(4, whole[4], 0, 150, size=4097), "TooLong")
+    t.bad("a chunk of no bytes", chunk(4, whole[4], 0, 0), f"BadRange:0/{len(whole[4])}")
+    t.bad("a chunk past the message's size", chunk(4, whole[4], 0, 150, size=149), "BadRange:0/149")
+    t.bad("a message of 4,097 bytes", chunk(4, whole[4], 0, 150, size=4097), "TooLong:4097")
     t.stays("a chunk of number 4", chunk(4, whole[4], 0, 150))
-    t.bad("another size of the same message", chunk(4, whole[4], 150, 300, size=len(whole[4]) + 1), "Differs")
+    t.bad("another size of the same message", chunk(4, whole[4], 150, 300, size=len(whole[4]) + 1), f"Differs:{len(whole[4]) + 1}/{len(whole[4])}")
     second = chunk(4, whole[4], 150, 300)
     length = len(second.front()) + 10
     t.bad("a chunk that ends early", second.bytes()[:-1], "ChunkShort")
     t.bad("a chunk that ends within its length", second.bytes()[:length + 3], "ChunkShort")
-    t.bad("a chunk whose length is -1", second.bytes()[:length] + b"\xff\xff\xff\xff", "BadRange")
+    t.bad("a chunk whose length is -1", second.bytes()[:length] + b"\xff\xff\xff\xff", f"BadRange:150/{len(whole[4])}")
     t.bad("a chunk whose length is -2", second.bytes()[:length] + b"\xfe\xff\xff\xff", "ChunkBadLength")
     t.stays("a chunk of another writer", chunk(4, whole[4], 150, None, writer=4), "taken 1 0 0")
     t.holds("what was missing, and bytes after it", chunk(4, whole[4], 150, None).bytes() + b"\x01\x02", *row[4])
-    t.bad("a message of another data set, joined", chunk(5, plain_message([u32(1)], 5).bytes(), 0, None), "WrongCount")
+    t.bad("a message of another data set, joined", chunk(5, plain_message([u32(1)], 5).bytes(), 0, None), "WrongCount:1")
     t.stays("a chunk without a payload header", peer(writers=None, messages=[whole[4]], more_flags2=1), "RESERVED")
     t.holds("the next message, whole", peer(plain_message(plain_row(9), 6)), *plain_row(9))
 
@@ -691,7 +708,7 @@ def kinds(t):
         t.holds("Variants in a slot", slot_of(Message([variant(it) for it in row], sequence=2 * number + 1, configured=120)), *row, group=1)
     t.holds("a Boolean of the byte ff is true", kinds_of(Message([b"\x01\xff"] + [variant(it) for it in ZEROS[1:]], sequence=7)), FIRST[0], *ZEROS[1:])
     t.bad("RawData whose String has 9 bytes of 8", slot_of(Message([it.raw(8) for it in ZEROS[:11]] + [b"\x09\x00\x00\x00"], encoding=RAW,
-                                                                   sequence=9, configured=120)), "RawBadLength", group=1)
+                                                                   sequence=9, configured=120)), "BadValue", group=1)
     t.bad("RawData after a payload header, for the dynamic read group", kinds_of(Message(raw, encoding=RAW, sequence=9)), "BadEncoding")
 
 
