@@ -11,10 +11,10 @@ KINDS = {"Boolean": (True, 1), "SByte": (-128, 128), "Byte": (255, 256), "Int16"
          "String": ("grün\0x", "x" * 17), "DateTime": (134405825540000000, 0.5), "Guid": (uuid.UUID("72962b91-fa75-4ae6-8d28-b404dc7daf63"), None),
          "ByteString": (b"\0\xff" * 8, bytes(17)), "StatusCode": (0x80000000, True)}
 KEY = dict(signing=bytes(range(32)), encrypting=bytes(range(16)), nonce=b"3333")
-# an index of the header is a number or where one comes to
+# the types of the header's parameters, as the module names them
 TYPES = {"struct uap_handle *": "handle", "const uint8_t *": "bytes", "uint8_t *": "room", "size_t": "size", "size_t *": "size*", "uint16_t *": "u16*",
          "uint32_t": "u32", "uint32_t *": "u32*", "uint64_t": "u64", "uint64_t *": "u64*", "const struct uap_key_set *": "sets", "struct uap_taken *": "taken*",
-         "const struct uap_guid *": "bytes", "struct uap_guid *": "room", "uint8_t": "index"}
+         "const struct uap_guid *": "bytes", "struct uap_guid *": "room"}
 
 
 def text(secured=False):
@@ -76,9 +76,22 @@ class OfTheHeader(unittest.TestCase):
         return TYPES[found[1].strip()]
 
     def test_statuses(self):
-        told = {name: int(number) for name, number in re.findall(r"^    UAP_(\w+) = (\d+)", self.header, re.M)}
-        ours = {it.name: int(it) for it in u.Status} | {f"WHY_{it.name}": int(it) for it in u.Why}
-        self.assertEqual(told, ours)
+        told = self.numbers("What calls answer") | self.numbers("Why a reader waits")
+        self.assertEqual(told, {it.name: int(it) for it in u.Status} | {f"WHY_{it.name}": int(it) for it in u.Why})
+
+    def test_kinds(self):
+        told = self.numbers("The kinds of fields")
+        self.assertEqual({name: told[name] for name in map(self.spelled, u._SCALARS)}, {self.spelled(kind): number for kind, (number, _) in u._SCALARS.items()})
+        self.assertEqual(sorted(map(self.spelled, KINDS)), sorted(told))
+
+    def numbers(self, comment):
+        """The numbers of the enum that stands under this comment."""
+        block = re.search(rf"^/\* {comment}.*?^enum {{\n(.*?)^}};", self.header, re.M | re.S)[1]
+        return {name: int(number) for name, number in re.findall(r"^    UAP_(\w+) = (\d+)", block, re.M)}
+
+    def spelled(self, kind):
+        """A kind's name as the header spells it: BYTE_STRING."""
+        return re.sub(r"(?<=[a-z])(?=[A-Z])", "_", kind).upper()
 
     def test_structs(self):
         for name, ours in (("uap_handle", _library.Handle), ("uap_key_set", u.KeySet), ("uap_taken", u.Taken)):
@@ -193,8 +206,9 @@ class Keys(OverSides):
         publisher, _ = self.opened(secured=True)
         publisher.resume("keys", 0, 500)
         self.assertEqual(publisher.standing("keys"), (7, 500))
-        with self.assertRaises(u.BadKeys):
+        with self.assertRaises(u.NumbersAgain):
             publisher.resume("keys", 0, 499)
+        self.assertTrue(issubclass(u.NumbersAgain, u.BadKeys))
 
     def test_keys_are_renewed_on_both_sides(self):
         publisher, subscriber = self.opened(secured=True)

@@ -161,7 +161,7 @@ class DataSet:
         at = self._field(field)
         kind, call = self._fields[at][1], self._publisher._call
         if kind in _SCALARS:
-            call("set_scalar", self._at, at, _SCALARS[kind][0], _word(kind, value, field))
+            call("set_word", self._at, at, _SCALARS[kind][0], _word(kind, value, field))
         elif kind == "Guid":
             call("set_guid", self._at, at, value.bytes_le)
         else:
@@ -240,7 +240,7 @@ class Subscriber(_Side):
         if kind in _SCALARS:
             number, form = _SCALARS[kind]
             word = c_uint64()
-            return None if self._call("get_scalar", *places, number, byref(word)) else struct.unpack_from(form, word.value.to_bytes(8, "little"))[0]
+            return None if self._call("get_word", *places, number, byref(word)) else struct.unpack_from(form, word.value.to_bytes(8, "little"))[0]
         buffer, length = ctypes.create_string_buffer(MOST_TEXT_BYTES), c_size_t()
         if kind == "Guid":
             return None if self._call("get_guid", *places, buffer) else uuid.UUID(bytes_le=buffer.raw[:16])

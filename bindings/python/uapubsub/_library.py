@@ -29,7 +29,7 @@ class Taken(Structure):
 
 
 # Each call with a letter for each parameter, by the types of the header.
-TYPES = {"handle": POINTER(Handle), "index": c_uint8, "index*": POINTER(c_uint8), "bytes": c_char_p, "room": c_void_p, "size": c_size_t,
+TYPES = {"handle": POINTER(Handle), "bytes": c_char_p, "room": c_void_p, "size": c_size_t,
          "size*": POINTER(c_size_t), "u16*": POINTER(c_uint16), "u32": c_uint32, "u32*": POINTER(c_uint32), "u64": c_uint64, "u64*": POINTER(c_uint64),
          "sets": POINTER(KeySet), "taken*": POINTER(Taken)}
 CALLS = """
@@ -38,30 +38,30 @@ config_check           bytes size room size size*
 close                  handle
 publisher_open         handle bytes size
 publisher_next         handle u64 room size size*
-publisher_standing     handle index u32* u32*
-publisher_resume       handle index u64 u32
-publisher_resume_with  handle index u64 u32 u32 sets size
-publisher_renew        handle index sets size
-writer_enable          handle index index
-writer_disable         handle index index
+publisher_standing     handle u32 u32* u32*
+publisher_resume       handle u32 u64 u32
+publisher_resume_with  handle u32 u64 u32 u32 sets size
+publisher_renew        handle u32 sets size
+writer_enable          handle u32 u32
+writer_disable         handle u32 u32
 subscriber_open        handle bytes size
-subscriber_datagram    handle index u64 room size taken*
+subscriber_datagram    handle u32 u64 room size taken*
 subscriber_expire      handle u64
-subscriber_renew       handle index sets size
-reader_enable          handle index index
-reader_disable         handle index index
-reader_why             handle index index u32*
-reader_number          handle index index u16*
-set_scalar             handle index index u32 u64
-set_text               handle index index bytes size
-set_bytes              handle index index bytes size
-set_guid               handle index index bytes
-set_field_status       handle index index u32
-get_scalar             handle index index index u32 u64*
-get_text               handle index index index room size size*
-get_bytes              handle index index index room size size*
-get_guid               handle index index index room
-get_field_status       handle index index index u32*
+subscriber_renew       handle u32 sets size
+reader_enable          handle u32 u32
+reader_disable         handle u32 u32
+reader_why             handle u32 u32 u32*
+reader_number          handle u32 u32 u16*
+set_word               handle u32 u32 u32 u64
+set_text               handle u32 u32 bytes size
+set_bytes              handle u32 u32 bytes size
+set_guid               handle u32 u32 bytes
+set_field_status       handle u32 u32 u32
+get_word               handle u32 u32 u32 u32 u64*
+get_text               handle u32 u32 u32 room size size*
+get_bytes              handle u32 u32 u32 room size size*
+get_guid               handle u32 u32 u32 room
+get_field_status       handle u32 u32 u32 u32*
 """
 
 
