@@ -23,6 +23,7 @@ class Status(enum.IntEnum):
     EARLIER_TOKEN = 15
     NUMBERS_AGAIN = 16
     NO_KIND = 17
+    STALE = 18
     HEADER_SHORT = 101
     VERSION = 102
     DISCOVERY = 103
@@ -53,6 +54,28 @@ class Why(enum.IntEnum):
     NEW_TOKEN = 3
     JUMP = 4
     RESTARTED = 5
+
+
+class Fault(enum.IntEnum):
+    """Why a part of a reader couldn't be read: UAP_FAULT_NONE and the others."""
+
+    NONE = 0
+    SHORT = 1
+    ENCODING = 2
+    KIND = 3
+    VALUE = 4
+    INDEX = 5
+    COUNT = 6
+    TRAILING = 7
+    NOT_VALID = 8
+    EVENT = 9
+    RESERVED = 10
+    CHUNK = 20
+    CHUNK_LENGTH = 21
+    TOO_LONG = 22
+    RANGE = 23
+    DIFFERS = 24
+    MISSING = 30
 
 
 class Error(Exception):
@@ -145,6 +168,10 @@ class NoKind(Error, status=Status.NO_KIND):
     """No kind of a field, or no list, has this number."""
 
 
+class Stale(Error, status=Status.STALE):
+    """The row that the reader holds is older than that. `Subscriber.is_fresh` answers it, and raises none."""
+
+
 class Refusal(Error):
     """A datagram was refused. `Subscriber.take` hands these out, and raises none."""
 
@@ -225,4 +252,4 @@ class TooOld(Refusal, status=Status.TOO_OLD):
     """Its number is 1,024 or more below the greatest one."""
 
 
-__all__ = ["Status", "Why", "Error", "BadKeys", "Refusal", *(it.__name__ for it in Error._of_status.values())]
+__all__ = ["Status", "Why", "Fault", "Error", "BadKeys", "Refusal", *(it.__name__ for it in Error._of_status.values())]
