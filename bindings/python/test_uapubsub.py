@@ -11,10 +11,11 @@ KINDS = {"Boolean": (True, 1), "SByte": (-128, 128), "Byte": (255, 256), "Int16"
          "String": ("grün\0x", "x" * 17), "DateTime": (134405825540000000, 0.5), "Guid": (uuid.UUID("72962b91-fa75-4ae6-8d28-b404dc7daf63"), None),
          "ByteString": (b"\0\xff" * 8, bytes(17)), "StatusCode": (0x80000000, True)}
 KEY = dict(signing=bytes(range(32)), encrypting=bytes(range(16)), nonce=b"3333")
-# an index of the header is a number or where one comes to
+# the types of the header's parameters, as the module names them
 TYPES = {"struct uap_handle *": "handle", "const uint8_t *": "bytes", "uint8_t *": "room", "size_t": "size", "size_t *": "size*", "uint16_t *": "u16*",
          "uint32_t": "u32", "uint32_t *": "u32*", "uint64_t": "u64", "uint64_t *": "u64*", "const struct uap_key_set *": "sets", "struct uap_taken *": "taken*",
-         "const struct uap_guid *": "bytes", "struct uap_guid *": "room", "uint8_t": "index"}
+         "const struct uap_guid *": "bytes", "struct uap_guid *": "room",
+         "struct uap_fault *": "fault*", "struct uap_passed *": "passed*", "struct uap_refused *": "refused*", "uint16_t": "u16"}
 
 
 def text(secured=False):
@@ -76,15 +77,32 @@ class OfTheHeader(unittest.TestCase):
         return TYPES[found[1].strip()]
 
     def test_statuses(self):
-        told = {name: int(number) for name, number in re.findall(r"^    UAP_(\w+) = (\d+)", self.header, re.M)}
-        ours = {it.name: int(it) for it in u.Status} | {f"WHY_{it.name}": int(it) for it in u.Why}
-        self.assertEqual(told, ours)
+        told = self.numbers("What calls answer") | self.numbers("Why a reader waits")
+        self.assertEqual(told, {it.name: int(it) for it in u.Status} | {f"WHY_{it.name}": int(it) for it in u.Why})
+        self.assertEqual(self.numbers("Why a part of a reader"), {f"FAULT_{it.name}": int(it) for it in u.Fault})
+
+    def test_kinds(self):
+        told = self.numbers("The kinds of fields")
+        self.assertEqual({name: told[name] for name in map(self.spelled, u._SCALARS)}, {self.spelled(kind): number for kind, (number, _) in u._SCALARS.items()})
+        self.assertEqual(sorted(map(self.spelled, KINDS)), sorted(told))
+
+    def numbers(self, comment):
+        """The numbers of the enum that stands under this comment."""
+        block = re.search(rf"^/\* {comment}.*?^enum {{\n(.*?)^}};", self.header, re.M | re.S)[1]
+        return {name: int(number) for name, number in re.findall(r"^    UAP_(\w+) = (\d+)", block, re.M)}
+
+    def spelled(self, kind):
+        """A kind's name as the header spells it: BYTE_STRING."""
+        return re.sub(r"(?<=[a-z])(?=[A-Z])", "_", kind).upper()
 
     def test_structs(self):
-        for name, ours in (("uap_handle", _library.Handle), ("uap_key_set", u.KeySet), ("uap_taken", u.Taken)):
-            fields = re.findall(r"(\w+)(?:\[\d+\])?;", re.search(rf"^struct {name} {{\n(.*?)^}};", self.header, re.M | re.S)[1])
-            self.assertEqual([it for it, _ in ours._fields_], fields)
-        self.assertEqual([ctypes.sizeof(it) for it in (_library.Handle, u.KeySet, u.Taken)], [16, 80, 12])
+        sizes = {"handle": (_library.Handle, 16), "key_set": (u.KeySet, 80), "taken": (u.Taken, 12), "fault": (u.LastFault, 24), "passed": (u.Passed, 32),
+                 "refused": (u.Refusals, 56)}
+        for name, (ours, size) in sizes.items():
+            block = re.search(rf"^struct uap_{name} {{\n(.*?)^}};", self.header, re.M | re.S)[1]
+            fields = re.findall(r"(\w+)(?:\[\d+\])?[;,]", re.sub(r"/\*.*?\*/", "", block, flags=re.S))
+            self.assertEqual([it for it, *_ in ours._fields_], fields)
+            self.assertEqual(ctypes.sizeof(ours), size)
 
     def test_version(self):
         told = re.findall(r"^#define UAPUBSUB_VERSION_(?:MAJOR|MINOR|PATCH) (\d+)$", self.header, re.M)
@@ -172,6 +190,34 @@ class Sides(OverSides):
         self.assertEqual([type(it) for it in told], [u.Taken, u.Repeated, u.Signature, u.HeaderShort, u.Version])
         self.assertEqual([it.status for it in told[1:]], [129, 128, 101, 102])
 
+    def test_moments_and_ages(self):
+        publisher, subscriber = self.opened()
+        self.assertEqual(publisher.due(50), 100)
+        self.assertIsNone(subscriber.due(50))
+        self.assertIsNone(subscriber.age("readers", "reader", 50))
+        self.assertFalse(subscriber.is_fresh("readers", "reader", 50, 1000))
+        for datagram in publisher.datagrams(100):
+            subscriber.take(datagram, 100)
+        self.assertEqual((publisher.due(101), subscriber.due(101)), (200, 1100))
+        self.assertEqual(subscriber.age("readers", "reader", 350), 250)
+        self.assertEqual([subscriber.is_fresh("readers", "reader", 350, it) for it in (250, 249)], [True, False])
+        self.assertTrue(publisher.may_turn("group"))
+
+    def test_what_isnt_read_is_counted(self):
+        publisher, subscriber = self.opened()
+        datagram = next(publisher.datagrams(100))
+        subscriber.take(datagram, 100)
+        subscriber.take(datagram, 100)
+        subscriber.take(datagram[:-1], 100)
+        subscriber.take(b"\x02", 100)
+        self.assertEqual(subscriber.passed("readers", "reader").older, 1)
+        fault = subscriber.last_fault("readers", "reader")
+        self.assertEqual((fault.bad, u.Fault(fault.fault)), (1, u.Fault.SHORT))
+        refusals = subscriber.refusals("readers")
+        self.assertEqual((refusals.count, u.Status(refusals.status)), (1, u.Status.VERSION))
+        subscriber.only("readers", 7)
+        self.assertEqual(type(subscriber.take(datagram, 100)[0]), u.NotOurs)
+
     def test_a_handle_is_of_its_thread(self):
         publisher, _ = self.opened()
         found = []
@@ -193,8 +239,9 @@ class Keys(OverSides):
         publisher, _ = self.opened(secured=True)
         publisher.resume("keys", 0, 500)
         self.assertEqual(publisher.standing("keys"), (7, 500))
-        with self.assertRaises(u.BadKeys):
+        with self.assertRaises(u.NumbersAgain):
             publisher.resume("keys", 0, 499)
+        self.assertTrue(issubclass(u.NumbersAgain, u.BadKeys))
 
     def test_keys_are_renewed_on_both_sides(self):
         publisher, subscriber = self.opened(secured=True)
@@ -213,6 +260,7 @@ class Keys(OverSides):
         publisher.resume_with("keys", 0, u.Standing(7, 2**32 - 6), [u.KeySet.of(7, 0, **KEY)])
         with self.assertRaises(u.Spent):
             list(publisher.datagrams(100))
+        self.assertFalse(publisher.may_turn("group"))
 
     def test_keys_of_another_length(self):
         for wrong in (dict(signing=bytes(31)), dict(encrypting=bytes(24)), dict(nonce=b"")):

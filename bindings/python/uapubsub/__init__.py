@@ -16,7 +16,7 @@ import ctypes, struct, threading, tomllib, uuid
 from ctypes import byref, c_size_t, c_uint16, c_uint32, c_uint64
 from typing import Any, Iterator, NamedTuple
 
-from ._library import Handle, KeySet, Taken, library
+from ._library import Handle, KeySet, LastFault, Passed, Refusals, Taken, library
 from .errors import *
 from .errors import demand
 
@@ -64,9 +64,10 @@ def _index(tables: list[dict], name: str | int, what: str) -> int:
 
 
 class _Side:
-    """An open handle, and what the configuration names. A side has the name of the call that opens it, and of its tables of groups and of their members."""
+    """An open handle, and what the configuration names. A side has the name that its calls begin with, and those of its tables of groups and of their
+    members."""
 
-    _open: str
+    _side: str
     _groups: str
     _member: str
 
@@ -75,7 +76,7 @@ class _Side:
         text = _encoded(text)
         self._tables = tomllib.loads(text.decode())
         self._handle, self._thread, self._is_closed = Handle(), threading.get_ident(), False
-        self._call(self._open, text, len(text))
+        self._call(f"{self._side}_open", text, len(text))
 
     def _call(self, name: str, *words: Any) -> Status:
         if threading.get_ident() != self._thread:
@@ -100,6 +101,11 @@ class _Side:
     def disable(self, group: str | int, member: str | int) -> None:
         self._call(f"{self._member}_disable", *self._places(group, member))
 
+    def due(self, now_ms: int) -> int | None:
+        """The first moment from now on at which there is something to do: a turn or a key of a publisher, a timeout of a subscriber. None: never."""
+        moment = c_uint64()
+        return None if self._call(f"{self._side}_due", now_ms, byref(moment)) else moment.value
+
     def close(self) -> None:
         """Gives back its memory. A second time it does nothing."""
         if not self._is_closed:
@@ -114,7 +120,7 @@ class _Side:
 
 
 class Publisher(_Side):
-    _open, _groups, _member = "publisher_open", "group", "writer"
+    _side, _groups, _member = "publisher", "group", "writer"
 
     def __getitem__(self, dataset: str | int) -> "DataSet":
         return DataSet(self, self._table("dataset", dataset))
@@ -124,6 +130,14 @@ class Publisher(_Side):
         buffer, length = ctypes.create_string_buffer(MOST_DATAGRAM_BYTES), c_size_t()
         while self._call("publisher_next", now_ms, buffer, MOST_DATAGRAM_BYTES, byref(length)) == Status.OK:
             yield ctypes.string_at(buffer, length.value)
+
+    def may_turn(self, group: str | int) -> bool:
+        """Whether the group may have a turn: its token has numbers left, and its life turns."""
+        try:
+            self._call("group_may_turn", self._table("group", group))
+        except Spent:
+            return False
+        return True
 
     def standing(self, keygroup: str | int) -> Standing:
         """What a device stores, with room above, before it sends."""
@@ -161,7 +175,7 @@ class DataSet:
         at = self._field(field)
         kind, call = self._fields[at][1], self._publisher._call
         if kind in _SCALARS:
-            call("set_scalar", self._at, at, _SCALARS[kind][0], _word(kind, value, field))
+            call("set_word", self._at, at, _SCALARS[kind][0], _word(kind, value, field))
         elif kind == "Guid":
             call("set_guid", self._at, at, value.bytes_le)
         else:
@@ -186,7 +200,7 @@ def _word(kind: str, value: Any, field: str | int) -> int:
 
 
 class Subscriber(_Side):
-    _open, _groups, _member = "subscriber_open", "readgroup", "reader"
+    _side, _groups, _member = "subscriber", "readgroup", "reader"
 
     def take(self, datagram: bytes, now_ms: int) -> list[Taken | Refusal]:
         """Gives a datagram to each read group: what each one took, or why it refused it."""
@@ -228,6 +242,40 @@ class Subscriber(_Side):
         number = c_uint16()
         return None if self._call("reader_number", *self._places(group, reader), byref(number)) else number.value
 
+    def age(self, group: str | int, reader: str | int, now_ms: int) -> int | None:
+        """How many milliseconds ago the row that is held was confirmed. A machine rests on this, and not on timeouts."""
+        age = c_uint64()
+        return None if self._call("reader_age", *self._places(group, reader), now_ms, byref(age)) else age.value
+
+    def is_fresh(self, group: str | int, reader: str | int, now_ms: int, bound_ms: int) -> bool:
+        """Whether a row is held that was confirmed at most `bound_ms` ago."""
+        try:
+            return self._call("reader_is_fresh", *self._places(group, reader), now_ms, bound_ms) == Status.OK
+        except Stale:
+            return False
+
+    def last_fault(self, group: str | int, reader: str | int) -> LastFault:
+        """Which parts of a reader couldn't be read."""
+        fault = LastFault()
+        self._call("reader_last_fault", *self._places(group, reader), byref(fault))
+        return fault
+
+    def passed(self, group: str | int, reader: str | int) -> Passed:
+        """What a reader passed over."""
+        passed = Passed()
+        self._call("reader_passed", *self._places(group, reader), byref(passed))
+        return passed
+
+    def refusals(self, group: str | int) -> Refusals:
+        """What a read group refused."""
+        refusals = Refusals()
+        self._call("read_group_refused", self._table("readgroup", group), byref(refusals))
+        return refusals
+
+    def only(self, group: str | int, number: int) -> None:
+        """A read group takes datagrams of this NetworkMessageNumber alone, of any where it is 0."""
+        self._call("read_group_only", self._table("readgroup", group), number)
+
     def renew(self, group: str | int, sets: list[KeySet]) -> None:
         """A read group goes on with other key sets."""
         self._call("subscriber_renew", self._table("readgroup", group), *_ring(sets))
@@ -240,7 +288,7 @@ class Subscriber(_Side):
         if kind in _SCALARS:
             number, form = _SCALARS[kind]
             word = c_uint64()
-            return None if self._call("get_scalar", *places, number, byref(word)) else struct.unpack_from(form, word.value.to_bytes(8, "little"))[0]
+            return None if self._call("get_word", *places, number, byref(word)) else struct.unpack_from(form, word.value.to_bytes(8, "little"))[0]
         buffer, length = ctypes.create_string_buffer(MOST_TEXT_BYTES), c_size_t()
         if kind == "Guid":
             return None if self._call("get_guid", *places, buffer) else uuid.UUID(bytes_le=buffer.raw[:16])

@@ -28,40 +28,69 @@ class Taken(Structure):
     _fields_ = [("parts", c_uint32), ("matched", c_uint32), ("bad", c_uint32)]
 
 
-# Each call with a letter for each parameter, by the types of the header.
-TYPES = {"handle": POINTER(Handle), "index": c_uint8, "index*": POINTER(c_uint8), "bytes": c_char_p, "room": c_void_p, "size": c_size_t,
+class LastFault(Structure):
+    """How many parts of a reader couldn't be read, and why the last one couldn't: `fault` is a number of Fault."""
+
+    _fields_ = [("bad", c_uint64), ("fault", c_uint32), ("got", c_uint32), ("of", c_uint32)]
+
+
+class Passed(Structure):
+    """How many messages a reader passed over, by what they had."""
+
+    _fields_ = [("other_major", c_uint64), ("unnumbered", c_uint64), ("older", c_uint64), ("major", c_uint32), ("has_major", c_uint32)]
+
+
+class Refusals(Structure):
+    """How many datagrams a read group refused, and of the last one why, and whose it was by its header."""
+
+    _fields_ = [("count", c_uint64), ("publisher", c_uint64),
+                *((name, c_uint32) for name in ("status", "publisher_type", "group", "has_group", "version", "has_version", "number", "has_number", "token", "has_token"))]
+
+
+# Each call with a word for each parameter, by the types of the header.
+TYPES = {"handle": POINTER(Handle), "bytes": c_char_p, "room": c_void_p, "size": c_size_t,
          "size*": POINTER(c_size_t), "u16*": POINTER(c_uint16), "u32": c_uint32, "u32*": POINTER(c_uint32), "u64": c_uint64, "u64*": POINTER(c_uint64),
-         "sets": POINTER(KeySet), "taken*": POINTER(Taken)}
+         "sets": POINTER(KeySet), "taken*": POINTER(Taken), "fault*": POINTER(LastFault), "passed*": POINTER(Passed),
+         "refused*": POINTER(Refusals), "u16": c_uint16}
 CALLS = """
 version
 config_check           bytes size room size size*
 close                  handle
 publisher_open         handle bytes size
 publisher_next         handle u64 room size size*
-publisher_standing     handle index u32* u32*
-publisher_resume       handle index u64 u32
-publisher_resume_with  handle index u64 u32 u32 sets size
-publisher_renew        handle index sets size
-writer_enable          handle index index
-writer_disable         handle index index
+publisher_due          handle u64 u64*
+group_may_turn         handle u32
+publisher_standing     handle u32 u32* u32*
+publisher_resume       handle u32 u64 u32
+publisher_resume_with  handle u32 u64 u32 u32 sets size
+publisher_renew        handle u32 sets size
+writer_enable          handle u32 u32
+writer_disable         handle u32 u32
 subscriber_open        handle bytes size
-subscriber_datagram    handle index u64 room size taken*
+subscriber_datagram    handle u32 u64 room size taken*
 subscriber_expire      handle u64
-subscriber_renew       handle index sets size
-reader_enable          handle index index
-reader_disable         handle index index
-reader_why             handle index index u32*
-reader_number          handle index index u16*
-set_scalar             handle index index u32 u64
-set_text               handle index index bytes size
-set_bytes              handle index index bytes size
-set_guid               handle index index bytes
-set_field_status       handle index index u32
-get_scalar             handle index index index u32 u64*
-get_text               handle index index index room size size*
-get_bytes              handle index index index room size size*
-get_guid               handle index index index room
-get_field_status       handle index index index u32*
+subscriber_renew       handle u32 sets size
+reader_enable          handle u32 u32
+reader_disable         handle u32 u32
+reader_why             handle u32 u32 u32*
+reader_number          handle u32 u32 u16*
+reader_age             handle u32 u32 u64 u64*
+reader_is_fresh        handle u32 u32 u64 u64
+reader_last_fault      handle u32 u32 fault*
+reader_passed          handle u32 u32 passed*
+read_group_refused     handle u32 refused*
+read_group_only        handle u32 u16
+subscriber_due         handle u64 u64*
+set_word               handle u32 u32 u32 u64
+set_text               handle u32 u32 bytes size
+set_bytes              handle u32 u32 bytes size
+set_guid               handle u32 u32 bytes
+set_field_status       handle u32 u32 u32
+get_word               handle u32 u32 u32 u32 u64*
+get_text               handle u32 u32 u32 room size size*
+get_bytes              handle u32 u32 u32 room size size*
+get_guid               handle u32 u32 u32 room
+get_field_status       handle u32 u32 u32 u32*
 """
 
 

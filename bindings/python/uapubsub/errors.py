@@ -18,7 +18,12 @@ class Status(enum.IntEnum):
     ROOM = 10
     SPENT = 11
     BAD_TEXT = 12
-    BAD_KEYS = 13
+    MANY_KEYS = 13
+    NO_RING = 14
+    EARLIER_TOKEN = 15
+    NUMBERS_AGAIN = 16
+    NO_KIND = 17
+    STALE = 18
     HEADER_SHORT = 101
     VERSION = 102
     DISCOVERY = 103
@@ -49,6 +54,28 @@ class Why(enum.IntEnum):
     NEW_TOKEN = 3
     JUMP = 4
     RESTARTED = 5
+
+
+class Fault(enum.IntEnum):
+    """Why a part of a reader couldn't be read: UAP_FAULT_NONE and the others."""
+
+    NONE = 0
+    SHORT = 1
+    ENCODING = 2
+    KIND = 3
+    VALUE = 4
+    INDEX = 5
+    COUNT = 6
+    TRAILING = 7
+    NOT_VALID = 8
+    EVENT = 9
+    RESERVED = 10
+    CHUNK = 20
+    CHUNK_LENGTH = 21
+    TOO_LONG = 22
+    RANGE = 23
+    DIFFERS = 24
+    MISSING = 30
 
 
 class Error(Exception):
@@ -117,8 +144,32 @@ class BadText(Error, ValueError, status=Status.BAD_TEXT):
     """The text isn't UTF-8, or the text or the bytes are longer than any field may have."""
 
 
-class BadKeys(Error, ValueError, status=Status.BAD_KEYS):
-    """The key sets make no ring, are of an earlier token, or a number would be used again."""
+class BadKeys(Error, ValueError):
+    """Key sets that can't be taken."""
+
+
+class ManyKeys(BadKeys, status=Status.MANY_KEYS):
+    """There are more than 16 key sets."""
+
+
+class NoRing(BadKeys, status=Status.NO_RING):
+    """There is no key set, or tokens and moments don't rise, or the first moment isn't 0."""
+
+
+class EarlierToken(BadKeys, status=Status.EARLIER_TOKEN):
+    """The key set of the moment is of an earlier token, and what was used under that isn't known."""
+
+
+class NumbersAgain(BadKeys, status=Status.NUMBERS_AGAIN):
+    """Numbers would be used again: the token is lower than the one in use, or is that one with a greater number used."""
+
+
+class NoKind(Error, status=Status.NO_KIND):
+    """No kind of a field, or no list, has this number."""
+
+
+class Stale(Error, status=Status.STALE):
+    """The row that the reader holds is older than that. `Subscriber.is_fresh` answers it, and raises none."""
 
 
 class Refusal(Error):
@@ -201,4 +252,4 @@ class TooOld(Refusal, status=Status.TOO_OLD):
     """Its number is 1,024 or more below the greatest one."""
 
 
-__all__ = ["Status", "Why", "Error", "Refusal", *(it.__name__ for it in Error._of_status.values())]
+__all__ = ["Status", "Why", "Fault", "Error", "BadKeys", "Refusal", *(it.__name__ for it in Error._of_status.values())]
