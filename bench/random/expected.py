@@ -1,7 +1,7 @@
 #!/usr/bin/env python3
-"""What the rows `random` and `random_chunks` of crates/rows_wire must answer, from the tables of OPC 10000-6 and 10000-14.
+"""What the rows `random` and `random_chunks` of crates/cases_wire must answer, from the tables of OPC 10000-6 and 10000-14.
 
-It reads rows on its input and writes each with its answer: `grep '^random' crates/rows_wire/stdin | bench/random/expected.py`.
+It reads rows on its input and writes each with its answer: `grep '^random' crates/cases_wire/stdin | bench/random/expected.py`.
 Nothing here is shared with the crates: the readers take slices of bytes as they go, and stop at the first fault."""
 import sys
 

@@ -1,7 +1,7 @@
 #!/usr/bin/env python3
-"""Compares the program rows_command with model.py over the cases that random_cases.py makes of seeds.
+"""Compares the program cases_command with model.py over the cases that random_cases.py makes of seeds.
 
-usage: compare.py PROGRAM FROM TO     (the seeds FROM to TO - 1; PROGRAM is crates/rows_command/out/rows_command, which `rt run` builds there,
+usage: compare.py PROGRAM FROM TO     (the seeds FROM to TO - 1; PROGRAM is crates/cases_command/out/cases_command, which `rt run` builds there,
                                       or - for the model alone)
 
 It names each seed whose answers differ, with the first line that does, and prints how many cases have each of some traits, and last how many it

@@ -2,7 +2,7 @@
 """An independent model of the command `relay`: a gateway over the sessions of models/session, made from OPC 10000-14 and the documents of
 docs/ (GATEWAY, SCRIPT, REPORT, CONFIGURATION), without a look at the crates.
 
-usage: model.py < CASES     (the lines behind `command relay` in crates/rows_command/stdin: prints what the runner has to print)
+usage: model.py < CASES     (the lines behind `command relay` in crates/cases_command/stdin: prints what the runner has to print)
 
 It refuses no text itself but by C26: a note `# ends STATUS TEXT` says how the next `relay` ends where a file is refused or a call fails."""
 import importlib.util, os, sys, tomllib

@@ -1,5 +1,5 @@
 #!/usr/bin/env python3
-"""Prints cases of the command `relay` by chance, for crates/rows_command and models/gateway/model.py: FILE and the script as
+"""Prints cases of the command `relay` by chance, for crates/cases_command and models/gateway/model.py: FILE and the script as
 models/session/random_cases.py makes them, a SECOND whose data sets are what FILE's readers offer, and failing sends and receives of both links.
 One pair of five has a data set that is spoilt in one way, so that C26 refuses it; a note `# spoilt WAY` says how.
 

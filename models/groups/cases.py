@@ -1,5 +1,5 @@
 #!/usr/bin/env python3
-"""Prints the cases of crates/rows_group/stdin. Secured datagrams that are given as bytes are made by the model's AES and HMAC."""
+"""Prints the cases of crates/cases_group/stdin. Secured datagrams that are given as bytes are made by the model's AES and HMAC."""
 import struct, sys
 from model import stream, mac, write_header
 out = []

@@ -2,7 +2,7 @@
 """An independent model of groups of writers and read groups, made from OPC 10000-14, OPC 10000-6, FIPS 197, RFC 2104 and the
 documents of docs/, without a look at the crates.
 
-usage: model.py < crates/rows_group/stdin     (prints what crates/rows_group/stdout has to be)"""
+usage: model.py < crates/cases_group/stdin     (prints what crates/cases_group/stdout has to be)"""
 import copy, hashlib, hmac, struct, sys, tomllib, uuid
 
 # ---------------------------------------------------------------- AES (FIPS 197), encryption alone

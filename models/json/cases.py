@@ -1,5 +1,5 @@
 #!/usr/bin/env python3
-"""Prints the cases of crates/rows_json that are messages in the JSON mapping, one a line; behind them stand those of tap_cases.py."""
+"""Prints the cases of crates/cases_json that are messages in the JSON mapping, one a line; behind them stand those of tap_cases.py."""
 import base64, json, sys
 
 ZERO = dict(a=False, b=0, c=0, d=0, e=0, f=0, g=0, h="0", i="0", j="0x00000000", k="0x0000000000000000", l="", m="0",

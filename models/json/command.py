@@ -2,7 +2,7 @@
 """An independent model of the command `json`: the sessions of models/session, the tap of tap.py, and readers of its lines by Python's own
 `json` and the definition *Records* (maxima over lists of places, no 16-bit comparison), made from docs/JSON.md, without a look at the crates.
 
-usage: command.py < CASES     (the lines behind `command json` in crates/rows_command/stdin: prints what the runner has to print)
+usage: command.py < CASES     (the lines behind `command json` in crates/cases_command/stdin: prints what the runner has to print)
 
 It refuses no text itself: a note `# status N` says what the next `json` ends with, without a text."""
 import base64, json, sys

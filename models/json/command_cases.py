@@ -1,7 +1,7 @@
 #!/usr/bin/env python3
-"""The cases of `json` in crates/rows_command.
+"""The cases of `json` in crates/cases_command.
 
-usage: command_cases.py            (prints what stands behind `command json` in crates/rows_command/stdin)
+usage: command_cases.py            (prints what stands behind `command json` in crates/cases_command/stdin)
        command_cases.py check OUT  (whether the answers in the file OUT have the lines that are known from outside the model)"""
 import re, sys
 

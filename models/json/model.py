@@ -2,7 +2,7 @@
 """An independent model of messages in the JSON mapping (OPC 10000-14 section 7.2.5, OPC 10000-6 section 5.4) over Python's
 own `json`, made from docs/JSON.md, without a look at the crates.
 
-usage: model.py < CASES     (the lines that cases.py prints: prints what the beginning of crates/rows_json/stdout has to be)"""
+usage: model.py < CASES     (the lines that cases.py prints: prints what the beginning of crates/cases_json/stdout has to be)"""
 import base64, json, math, re, sys
 
 # the data sets that the cases are read for: (name, kind, cap) of each field, and whether there are statuses

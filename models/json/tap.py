@@ -2,7 +2,7 @@
 """An independent model of a tap: which datagrams are spelled in the JSON mapping, and how, made from OPC 10000-14 and docs/JSON.md over
 the headers and frames of models/groups, without a look at the crates.
 
-usage: tap.py < CASES     (the lines that tap_cases.py prints: prints what the end of crates/rows_json/stdout has to be)"""
+usage: tap.py < CASES     (the lines that tap_cases.py prints: prints what the end of crates/cases_json/stdout has to be)"""
 import base64, importlib.util, json, os, struct, sys, tomllib, uuid
 
 

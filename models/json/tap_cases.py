@@ -1,7 +1,7 @@
 #!/usr/bin/env python3
-"""The cases of crates/rows_json that are datagrams, behind those of cases.py.
+"""The cases of crates/cases_json that are datagrams, behind those of cases.py.
 
-usage: tap_cases.py     (prints the end of crates/rows_json/stdin)"""
+usage: tap_cases.py     (prints the end of crates/cases_json/stdin)"""
 import random, struct
 from tap import groups, Tap, CONFIGURATIONS
 

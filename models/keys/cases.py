@@ -1,5 +1,5 @@
 #!/usr/bin/env python3
-"""Prints the cases of crates/rows_key/stdin. Replies are spelled by the model."""
+"""Prints the cases of crates/cases_key/stdin. Replies are spelled by the model."""
 import struct
 from model import Answer, POLICIES, made_key, request, string
 

@@ -1,7 +1,7 @@
 #!/usr/bin/env python3
 """An independent model of the command `keys`, made from docs/KEYS.md, above the model of the key service, without a look at the crates.
 
-usage: command.py < CASES     (the lines behind `command keys` in crates/rows_command/stdin: prints what the runner has to print)"""
+usage: command.py < CASES     (the lines behind `command keys` in crates/cases_command/stdin: prints what the runner has to print)"""
 import re, sys, tomllib
 from model import POLICIES, Key, Refused, Service
 

@@ -1,5 +1,5 @@
 #!/usr/bin/env python3
-"""Prints the cases of `keys` in crates/rows_command."""
+"""Prints the cases of `keys` in crates/cases_command."""
 
 
 def config(*groups, begin='[publisher]\\nid = "u8:5"\\n'):

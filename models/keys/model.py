@@ -2,7 +2,7 @@
 """An independent model of the key service, made from OPC 10000-14 8.3.2 (GetSecurityKeys), OPC 10000-6 5.2.2 and docs/KEYS.md, without
 a look at the crates.
 
-usage: model.py < crates/rows_key/stdin     (prints what crates/rows_key/stdout has to be)"""
+usage: model.py < crates/cases_key/stdin     (prints what crates/cases_key/stdout has to be)"""
 import re, struct, sys
 from dataclasses import dataclass
 

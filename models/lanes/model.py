@@ -2,7 +2,7 @@
 """An independent model of the command `lanes`: the groups of models/groups in lanes, made from OPC 10000-14 and the documents of docs/
 (LANES, SCRIPT, CONFIGURATION), without a look at the crates.
 
-usage: model.py < CASES     (the lines behind `command lanes` in crates/rows_command/stdin: prints what the runner has to print)
+usage: model.py < CASES     (the lines behind `command lanes` in crates/cases_command/stdin: prints what the runner has to print)
 
 It refuses no text itself: a note `# refused STATUS TEXT` says what the next `run` answers. Which send fails is known where there is one lane."""
 import importlib.util, os, sys

@@ -1,5 +1,5 @@
 #!/usr/bin/env python3
-"""Prints cases of the command `lanes` by chance, for crates/rows_command and models/lanes/model.py: configurations as models/session/random_cases.py
+"""Prints cases of the command `lanes` by chance, for crates/cases_command and models/lanes/model.py: configurations as models/session/random_cases.py
 makes them, scripts of writes, ticks and fates, now and then a line that lanes don't take, a room, and failing sends where there is one lane.
 
 usage: random_cases.py FIRST COUNT     (the seeds FIRST to FIRST + COUNT - 1)"""

@@ -1,5 +1,5 @@
 #!/usr/bin/env python3
-"""Turns and arrivals by chance, for the program rows_wire, and their answers.
+"""Turns and arrivals by chance, for the program cases_wire, and their answers.
 
 usage: turns.py cases | turns.py answers
 

@@ -1,5 +1,5 @@
 #!/usr/bin/env python3
-"""Prints the cases of `play` in crates/rows_command. model.py prints their answers.
+"""Prints the cases of `play` in crates/cases_command. model.py prints their answers.
 
 usage: cases.py            (prints the cases)
        cases.py check OUT  (whether the answers in the file OUT have the lines that the cases name as known from outside the model)"""

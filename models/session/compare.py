@@ -1,7 +1,7 @@
 #!/usr/bin/env python3
-"""Compares the program rows_command with model.py over the sessions that random_cases.py makes of seeds.
+"""Compares the program cases_command with model.py over the sessions that random_cases.py makes of seeds.
 
-usage: compare.py FIRST COUNT [PROGRAM]     (the seeds FIRST to FIRST + COUNT - 1; PROGRAM is crates/rows_command/out/rows_command,
+usage: compare.py FIRST COUNT [PROGRAM]     (the seeds FIRST to FIRST + COUNT - 1; PROGRAM is crates/cases_command/out/cases_command,
                                             which `rt run` builds there)
 
 It names each seed whose answers differ, with the first line that does, and prints what it compared: how many sessions, and how many of them
@@ -31,7 +31,7 @@ def answers(command, text):
 
 def main():
     first, count = int(sys.argv[1]), int(sys.argv[2])
-    program = sys.argv[3] if len(sys.argv) > 3 else os.path.join(HERE, "..", "..", "crates", "rows_command", "out", "rows_command")
+    program = sys.argv[3] if len(sys.argv) > 3 else os.path.join(HERE, "..", "..", "crates", "cases_command", "out", "cases_command")
     differing, refused, traits = 0, 0, dict.fromkeys((t[0] for t in TRAITS), 0)
     for at in range(first, first + count, AT_ONCE):
         made = cases(at, min(AT_ONCE, first + count - at))

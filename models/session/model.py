@@ -2,7 +2,7 @@
 """An independent model of whole sessions: the script over the groups of models/groups, made from OPC 10000-14 and the documents of
 docs/ (SCRIPT, REPORT, CONFIGURATION), without a look at the crates.
 
-usage: model.py < CASES     (the lines behind `command play` in crates/rows_command/stdin: prints what the runner has to print)
+usage: model.py < CASES     (the lines behind `command play` in crates/cases_command/stdin: prints what the runner has to print)
 
 It refuses no text itself: a note `# refused TEXT` says what the next `play` answers."""
 import copy, importlib.util, os, sys, tomllib

@@ -1,5 +1,5 @@
 #!/usr/bin/env python3
-"""Prints cases of whole sessions by chance, for crates/rows_command and models/session/model.py: a configuration, a script, failing sends
+"""Prints cases of whole sessions by chance, for crates/cases_command and models/session/model.py: a configuration, a script, failing sends
 and receives, and datagrams that come besides: copies of what was sent before, whole, cut, lengthened or with a bit altered, and bytes by chance.
 
 usage: random_cases.py FIRST COUNT     (the seeds FIRST to FIRST + COUNT - 1)

@@ -8,9 +8,9 @@ use Rattle.json_frames.specs.Parts.{Part}
 use Rattle.json_tap.specs.Keeping.{IsOfLink}
 use Rattle.json_tap.specs.Transcoding.{messages_of}
 use Rattle.script_player.specs.Plays.{IsPlayOf, plan_by}
-use Rattle.commands.specs.declared.status.Status.{Status}
-use Rattle.commands.specs.Outside.{Outside, Wire}
-use Rattle.commands.specs.Sessions.{SessionEnds, takes_all}
+use Rattle.cmd_base.specs.declared.status.Status.{Status}
+use Rattle.cmd_base.specs.Outside.{Outside, Wire}
+use Rattle.cmd_base.specs.Sessions.{SessionEnds, takes_all}
 use Rattle.json_text.specs.Matching.{json_readers}
 use Rattle.json_text.specs.Reading.{ReadsLines, parts_of}
 use Rattle.json_text.specs.Readers.{HasRecords}

@@ -5,14 +5,14 @@ ghost use Rattle.ps_script.specs.Sound.{IsScript};
 ghost use Rattle.writer_group.specs.Standing.{IsGood};
 ghost use Rattle.script_player.specs.Openings.{PerformsOver};
 ghost use Rattle.script_player.specs.Plays.{opening_of};
-ghost use Rattle.commands.specs.Outside.{outside_of, wire_of};
-ghost use Rattle.commands.specs.Statuses.{IsDone, IsUnwritten};
-ghost use Rattle.commands.specs.Links.{IsBeforeLink};
+ghost use Rattle.cmd_base.specs.Outside.{outside_of, wire_of};
+ghost use Rattle.cmd_base.specs.Statuses.{IsDone, IsUnwritten};
+ghost use Rattle.cmd_base.specs.Links.{IsBeforeLink};
 ghost use Rattle.cmd_json.specs.Jsons.{IsJsonOf, JsonEnds};
 
 use crate::laws::lines_have_their_writers_frames;
 use crate::playing::written_play;
-use commands::{Accepted, Status, accept, status_of, write_text};
+use cmd_base::{Accepted, Status, accept, status_of, write_text};
 use json_text::{lines_are_read_as_their_messages, readers_keep_records, text_of_lines};
 use script_player::PlayEnd;
 use std::alloc::Global;

@@ -6,14 +6,14 @@ use Rattle.ua_base.specs.Cause.{HasCause, Rose}
 use Rattle.ua_base.specs.Files.{ToldFile}
 use Rattle.ps_config.specs.declared.parts.Config.{Config}
 use Rattle.ps_config.specs.Reading.{Judgement, configuration}
-use Rattle.commands.specs.declared.status.Status.{Status}
-use Rattle.commands.specs.declared.status.Status.TheVariants.{Done, BadWords, ConfigRefused, NoSource, ScriptRefused, NotInLanes, Unread, Unwritten, OutOfMemory, Unopened, Long}
-use Rattle.commands.specs.Outside.{Outside}
-use Rattle.commands.specs.Outputs.{EndsWriting}
-use Rattle.commands.specs.Statuses.{number_of, IsDone, IsConfigRefused, IsUnread, IsUnwritten, IsOutOfMemory, IsTooLong}
-use Rattle.commands.specs.Files.{IsLong, IsTold}
-use Rattle.commands.specs.Configurations.{EndsConfigFile, IsJudged}
-use Rattle.commands.proofs.Told.{judged_told, long_judged, long_is, long_short}
+use Rattle.cmd_base.specs.declared.status.Status.{Status}
+use Rattle.cmd_base.specs.declared.status.Status.TheVariants.{Done, BadWords, ConfigRefused, NoSource, ScriptRefused, NotInLanes, Unread, Unwritten, OutOfMemory, Unopened, Long}
+use Rattle.cmd_base.specs.Outside.{Outside}
+use Rattle.cmd_base.specs.Outputs.{EndsWriting}
+use Rattle.cmd_base.specs.Statuses.{number_of, IsDone, IsConfigRefused, IsUnread, IsUnwritten, IsOutOfMemory, IsTooLong}
+use Rattle.cmd_base.specs.Files.{IsLong, IsTold}
+use Rattle.cmd_base.specs.Configurations.{EndsConfigFile, IsJudged}
+use Rattle.cmd_base.proofs.Told.{judged_told, long_judged, long_is, long_short}
 use Rattle.cmd_keys.specs.declared.words.Asked.{Asked}
 use Rattle.cmd_keys.specs.Ends.{KeysEnds, Says, TellsAnswer, TellsExchange, TellsKeys}
 

@@ -6,12 +6,12 @@ use Rattle.ua_base.specs.Output.{appended, AppendsPrefix}
 use Rattle.key_service.specs.declared.service.Keys.{Keys}
 use Rattle.ps_config.specs.declared.parts.Config.{Config}
 use Rattle.ps_config.specs.Reading.{configuration}
-use Rattle.commands.specs.declared.status.Status.{Status}
-use Rattle.commands.specs.declared.status.Status.TheVariants.{Done, Unwritten}
-use Rattle.commands.specs.Outside.{Outside, IsQuiet}
-use Rattle.commands.specs.Statuses.{IsDone, IsConfigRefused, IsUnread, IsUnwritten, IsOutOfMemory, IsTooLong}
-use Rattle.commands.specs.Files.{IsLong, IsTold}
-use Rattle.commands.specs.Configurations.{IsJudged, EndsConfigFile}
+use Rattle.cmd_base.specs.declared.status.Status.{Status}
+use Rattle.cmd_base.specs.declared.status.Status.TheVariants.{Done, Unwritten}
+use Rattle.cmd_base.specs.Outside.{Outside, IsQuiet}
+use Rattle.cmd_base.specs.Statuses.{IsDone, IsConfigRefused, IsUnread, IsUnwritten, IsOutOfMemory, IsTooLong}
+use Rattle.cmd_base.specs.Files.{IsLong, IsTold}
+use Rattle.cmd_base.specs.Configurations.{IsJudged, EndsConfigFile}
 use Rattle.cmd_keys.specs.declared.refusal.Refusal.{Refusal}
 use Rattle.cmd_keys.specs.declared.words.Asked.{Asked}
 use Rattle.cmd_keys.specs.Answers.{IsAnswer}

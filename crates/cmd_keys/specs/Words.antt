@@ -3,7 +3,7 @@ use Rattle.std.specs.Prelude.{ℕ, ◌^◌, List, [], ◌∷◌, codes, ◌&&◌
 use Rattle.std.specs.Str.{bytes_eq}
 use Rattle.dataset_meta.specs.Names.{is_name}
 use Rattle.config_tables.specs.Texts.{number_spelled}
-use Rattle.commands.specs.Words.{is_file_name}
+use Rattle.cmd_base.specs.Words.{is_file_name}
 use Rattle.cmd_keys.specs.declared.words.Asked.{Asked}
 
 -- the name that a word is, if it is one

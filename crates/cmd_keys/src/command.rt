@@ -1,14 +1,14 @@
 //! Asking for keys.
 ghost use Rattle.std.specs.Prelude.{◌≡◌, IfOk, IfErr};
 ghost use Rattle.ua_base.specs.Cause.{Rose};
-ghost use Rattle.commands.specs.Outside.{KeepsFolder, outside_of};
-ghost use Rattle.commands.specs.Statuses.{IsDone, IsUnread, IsUnwritten};
-ghost use Rattle.commands.specs.Configurations.{EndsConfigFile};
+ghost use Rattle.cmd_base.specs.Outside.{KeepsFolder, outside_of};
+ghost use Rattle.cmd_base.specs.Statuses.{IsDone, IsUnread, IsUnwritten};
+ghost use Rattle.cmd_base.specs.Configurations.{EndsConfigFile};
 ghost use Rattle.cmd_keys.specs.Ends.{KeysEnds, TellsKeys};
 
 use crate::text::answer_text;
 use crate::words::Asked;
-use commands::{Status, read_configuration, write_text};
+use cmd_base::{Status, read_configuration, write_text};
 use std::alloc::Global;
 use ua_base::{Folder, NoMemory, Sink};
 

@@ -2,7 +2,7 @@
 ghost use Rattle.std.specs.Prelude.{◌≡◌, option_map};
 ghost use Rattle.cmd_keys.specs.Words.{asked_in, keys_of};
 
-use commands::{Word, names_file};
+use cmd_base::{Word, names_file};
 use config_tables::number_spelled;
 use dataset_meta::Name32;
 

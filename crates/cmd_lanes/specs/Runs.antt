@@ -7,9 +7,9 @@ use Rattle.session_model.specs.Deeds.{deeds, log_at}
 use Rattle.session_model.specs.Sends.{Send}
 use Rattle.script_player.specs.Plays.{plan_by}
 use Rattle.lane_groups.specs.Deeds.{datagrams_by}
-use Rattle.commands.specs.declared.status.Status.{Status}
-use Rattle.commands.specs.Outside.{Outside, Wire}
-use Rattle.commands.specs.Sessions.{SessionEnds}
+use Rattle.cmd_base.specs.declared.status.Status.{Status}
+use Rattle.cmd_base.specs.Outside.{Outside, Wire}
+use Rattle.cmd_base.specs.Sessions.{SessionEnds}
 use Rattle.cmd_lanes.specs.Alike.{HaveNumbers}
 use Rattle.cmd_lanes.specs.Scripts.{refusal, ticks_of}
 use Rattle.cmd_lanes.specs.Sends.{AreSent, Counts, datagrams_to}

@@ -1,13 +1,13 @@
 //! The command `lanes`.
 ghost use Rattle.std.specs.Prelude.{◌≡◌, ◌≢◌, ◌≤◌, ◌<◌, None, Some, Err, IfOk, OnOk, option_copied};
-ghost use Rattle.commands.specs.Outside.{outside_of, wire_of};
-ghost use Rattle.commands.specs.Statuses.{IsDone, IsUnwritten};
-ghost use Rattle.commands.specs.Links.{IsBeforeLink};
+ghost use Rattle.cmd_base.specs.Outside.{outside_of, wire_of};
+ghost use Rattle.cmd_base.specs.Statuses.{IsDone, IsUnwritten};
+ghost use Rattle.cmd_base.specs.Links.{IsBeforeLink};
 ghost use Rattle.cmd_lanes.specs.Runs.{LanesEnds};
 
 use crate::playing::play_lanes;
 use crate::refusal::refused;
-use commands::{Status, accept, status_of, write_text};
+use cmd_base::{Status, accept, status_of, write_text};
 use std::alloc::Global;
 use std::sync::Wait;
 use std::thread::Threads;

@@ -1,18 +1,18 @@
 -- How the command ends, from what its status says and from the counts.
 use Rattle.std.proofs.Common.{◌≡◌, ◌⊎◌, inl, inr, ℕ, List, Err, IsOk, refl, ap, arith}
 use Rattle.ua_base.specs.Cause.{HasCause}
-use Rattle.commands.specs.declared.status.Status.{Status}
-use Rattle.commands.specs.declared.status.Status.TheVariants.{Done, BadWords, ConfigRefused, NoSource, ScriptRefused, NotInLanes, Unread, Unwritten, OutOfMemory, Unopened, Long}
-use Rattle.commands.specs.Outputs.{EndsWriting}
-use Rattle.commands.specs.Outside.{Wire}
-use Rattle.commands.specs.Statuses.{IsDone, IsUnwritten, IsOutOfMemory, IsUnopened, IsPerformed}
+use Rattle.cmd_base.specs.declared.status.Status.{Status}
+use Rattle.cmd_base.specs.declared.status.Status.TheVariants.{Done, BadWords, ConfigRefused, NoSource, ScriptRefused, NotInLanes, Unread, Unwritten, OutOfMemory, Unopened, Long}
+use Rattle.cmd_base.specs.Outputs.{EndsWriting}
+use Rattle.cmd_base.specs.Outside.{Wire}
+use Rattle.cmd_base.specs.Statuses.{IsDone, IsUnwritten, IsOutOfMemory, IsUnopened, IsPerformed}
 use Rattle.script_player.specs.declared.play.PlayEnd.{PlayEnd}
 use Rattle.script_player.specs.declared.play.PlayEnd.TheVariants as ends
 use Rattle.script_player.proofs.Openings.{ended}
-use Rattle.commands.specs.Endings.{status_of}
-use Rattle.commands.specs.Links.{UsesLink}
-use Rattle.commands.proofs.Ended.{written_late}
-use Rattle.commands.proofs.Ends.{not_unopened, stays-telling, stays-unopened}
+use Rattle.cmd_base.specs.Endings.{status_of}
+use Rattle.cmd_base.specs.Links.{UsesLink}
+use Rattle.cmd_base.proofs.Ended.{written_late}
+use Rattle.cmd_base.proofs.Ends.{not_unopened, stays-telling, stays-unopened}
 use Rattle.cmd_load.specs.Loads.{LoadEnds, Loads, OpensForWork, Output, Summarizes}
 
 -- the link wasn't used

@@ -36,7 +36,7 @@ use Rattle.session_laws.specs.Telling.{IsReaderTold}
 use Rattle.script_player.specs.Plays.{opening_of, plan_by}
 use Rattle.script_runner.specs.Legal.{fields_in, history_by, row_made, writes_to}
 use Rattle.script_runner.specs.Runs.{IsRunOf}
-use Rattle.commands.specs.Outside.{Wire}
+use Rattle.cmd_base.specs.Outside.{Wire}
 use Rattle.cmd_load.specs.Loads.{HoldsVersion, OpensForWork, Summarizes}
 use Rattle.cmd_load.specs.Newest.{newest_row, newest_text}
 use Rattle.cmd_load.proofs.Last.{law_newest, law_ticks, law_versions}

@@ -13,11 +13,11 @@ use Rattle.report_laws.specs.Reported.{IsReported}
 use Rattle.session_laws.specs.Sessions.{TakesWhatWasSent}
 use Rattle.script_player.specs.Plays.{opening_of, plan_by}
 use Rattle.script_runner.specs.Runs.{IsRunOf}
-use Rattle.commands.specs.declared.status.Status.{Status}
-use Rattle.commands.specs.declared.status.Status.TheVariants.{Done, Unwritten, OutOfMemory, Unopened}
-use Rattle.commands.specs.Outside.{Wire, IsQuiet}
-use Rattle.commands.specs.Statuses.{IsDone, IsUnwritten, IsOutOfMemory, IsUnopened, IsPerformed}
-use Rattle.commands.specs.Links.{IsQuietOrOpened, UsesLink}
+use Rattle.cmd_base.specs.declared.status.Status.{Status}
+use Rattle.cmd_base.specs.declared.status.Status.TheVariants.{Done, Unwritten, OutOfMemory, Unopened}
+use Rattle.cmd_base.specs.Outside.{Wire, IsQuiet}
+use Rattle.cmd_base.specs.Statuses.{IsDone, IsUnwritten, IsOutOfMemory, IsUnopened, IsPerformed}
+use Rattle.cmd_base.specs.Links.{IsQuietOrOpened, UsesLink}
 use Rattle.cmd_load.specs.Newest.{newest_text}
 
 -- ---- the outside

@@ -5,12 +5,12 @@ ghost use Rattle.ps_config.specs.Types.{HasTypes};
 ghost use Rattle.ps_script.specs.Generated.{generated};
 ghost use Rattle.ps_script.specs.Sound.{IsScript};
 ghost use Rattle.writer_group.specs.Standing.{IsGood};
-ghost use Rattle.commands.specs.Outside.{wire_of};
-ghost use Rattle.commands.specs.Statuses.{IsDone, IsUnwritten};
-ghost use Rattle.commands.specs.Links.{UsesLink};
+ghost use Rattle.cmd_base.specs.Outside.{wire_of};
+ghost use Rattle.cmd_base.specs.Statuses.{IsDone, IsUnwritten};
+ghost use Rattle.cmd_base.specs.Links.{UsesLink};
 ghost use Rattle.cmd_load.specs.Loads.{LoadEnds, OpensForWork, Summarizes, output_of};
 
-use commands::{Status, status_of, write_text};
+use cmd_base::{Status, status_of, write_text};
 use ps_config::{Config, built_in, the_built_in_configuration_is_sound};
 use ps_report::load_summary;
 use ps_script::{Script, generate};

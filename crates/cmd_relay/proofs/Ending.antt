@@ -14,21 +14,21 @@ use Rattle.session_model.specs.Counts.{session_nothings}
 use Rattle.script_player.specs.declared.play.PlayEnd.{PlayEnd}
 use Rattle.script_player.specs.declared.play.PlayEnd.TheVariants as ends
 use Rattle.script_player.specs.Plays.{opening_of}
-use Rattle.commands.specs.declared.status.Status.{Status}
-use Rattle.commands.specs.declared.status.Status.TheVariants.{Done, BadWords, ConfigRefused, NoSource, ScriptRefused, NotInLanes, Unread, Unwritten, OutOfMemory, Unopened, Long}
-use Rattle.commands.specs.Configurations.{EndsConfigFile, IsJudged}
-use Rattle.commands.specs.Files.{IsLong, IsTold}
-use Rattle.commands.specs.Outputs.{EndsWriting}
-use Rattle.commands.specs.Outside.{Outside, Wire}
-use Rattle.commands.specs.Scripts.{EndsScript, IsJudgedScript}
-use Rattle.commands.specs.Statuses.{IsDone, IsConfigRefused, IsOutOfMemory, IsScriptRefused, IsTooLong, IsUnopened, IsUnread, IsUnwritten, IsPerformed}
-use Rattle.commands.proofs.Told.{judged_told, script_told, long_is, long_judged, long_short}
-use Rattle.commands.specs.Endings.{status_of}
-use Rattle.commands.specs.Sessions.{NamesLong}
-use Rattle.commands.specs.Links.{IsQuietOrOpened}
-use Rattle.commands.proofs.Ended.{written_late}
-use Rattle.commands.proofs.Ends.{stays-telling, stays-unopened}
-use Rattle.commands.proofs.ToldSessions.{short}
+use Rattle.cmd_base.specs.declared.status.Status.{Status}
+use Rattle.cmd_base.specs.declared.status.Status.TheVariants.{Done, BadWords, ConfigRefused, NoSource, ScriptRefused, NotInLanes, Unread, Unwritten, OutOfMemory, Unopened, Long}
+use Rattle.cmd_base.specs.Configurations.{EndsConfigFile, IsJudged}
+use Rattle.cmd_base.specs.Files.{IsLong, IsTold}
+use Rattle.cmd_base.specs.Outputs.{EndsWriting}
+use Rattle.cmd_base.specs.Outside.{Outside, Wire}
+use Rattle.cmd_base.specs.Scripts.{EndsScript, IsJudgedScript}
+use Rattle.cmd_base.specs.Statuses.{IsDone, IsConfigRefused, IsOutOfMemory, IsScriptRefused, IsTooLong, IsUnopened, IsUnread, IsUnwritten, IsPerformed}
+use Rattle.cmd_base.proofs.Told.{judged_told, script_told, long_is, long_judged, long_short}
+use Rattle.cmd_base.specs.Endings.{status_of}
+use Rattle.cmd_base.specs.Sessions.{NamesLong}
+use Rattle.cmd_base.specs.Links.{IsQuietOrOpened}
+use Rattle.cmd_base.proofs.Ended.{written_late}
+use Rattle.cmd_base.proofs.Ends.{stays-telling, stays-unopened}
+use Rattle.cmd_base.proofs.ToldSessions.{short}
 use Rattle.cmd_relay.specs.declared.command.Accepted.{Accepted}
 use Rattle.cmd_relay.specs.Ends.{Accepts, AreConfigured, AreRefused, AreTold, AreToldConfigs, EndsAccepting, EndsSecond, Names, Reads, RelayEnds, Says, UsesLinks, Writes}
 use Rattle.cmd_relay.specs.Links.{LeavesUnopened, OpensBoth, StaysClosed, opening_again}

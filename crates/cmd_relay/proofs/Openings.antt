@@ -3,7 +3,7 @@ use Rattle.std.proofs.Common.{◌≤◌, inr, ℕ, Option, ◌∙◌, arith}
 use Rattle.ua_base.specs.Journal.{LinkState}
 use Rattle.ua_base.specs.Links.{Making, Opening, KeepsLink}
 use Rattle.ua_base.proofs.Links.{TellsOn-more}
-use Rattle.commands.specs.Outside.{Wire, wire_of}
+use Rattle.cmd_base.specs.Outside.{Wire, wire_of}
 use Rattle.cmd_relay.specs.Links.{OpensBoth, OpensOne}
 
 -- ---- one link

@@ -1,9 +1,9 @@
 -- With status 0 the text of a relay was written.
 use Rattle.std.proofs.Common.{◌≡◌, arith}
-use Rattle.commands.specs.declared.status.Status.{Status}
-use Rattle.commands.specs.declared.status.Status.TheVariants.{Done, BadWords, ConfigRefused, NoSource, ScriptRefused, NotInLanes, Unread, Unwritten, OutOfMemory, Unopened, Long}
-use Rattle.commands.specs.Outside.{Outside, Wire}
-use Rattle.commands.specs.Statuses.{number_of}
+use Rattle.cmd_base.specs.declared.status.Status.{Status}
+use Rattle.cmd_base.specs.declared.status.Status.TheVariants.{Done, BadWords, ConfigRefused, NoSource, ScriptRefused, NotInLanes, Unread, Unwritten, OutOfMemory, Unopened, Long}
+use Rattle.cmd_base.specs.Outside.{Outside, Wire}
+use Rattle.cmd_base.specs.Statuses.{number_of}
 use Rattle.cmd_relay.specs.Ends.{Names, Says, WritesRelay}
 
 pub writes-relay : (status : Status) (names : Names) (old new : Outside) (lab wire : Wire) → Says status names old new lab wire → number_of status ≡ 0 → WritesRelay names old new lab wire

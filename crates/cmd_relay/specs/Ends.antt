@@ -9,15 +9,15 @@ use Rattle.ps_script.specs.declared.script.Script.{Script}
 use Rattle.ps_script.specs.Scripts.{script as script_in}
 use Rattle.ps_script.specs.Values.{ValueReader}
 use Rattle.script_player.specs.Plays.{opening_of, plan_by, row_written}
-use Rattle.commands.specs.declared.status.Status.{Status}
-use Rattle.commands.specs.declared.status.Status.TheVariants.{Done, ConfigRefused, NoSource, ScriptRefused, Unread, Unwritten, OutOfMemory, Unopened, Long}
-use Rattle.commands.specs.Configurations.{IsJudged, EndsConfigFile}
-use Rattle.commands.specs.Files.{IsLong, IsTold}
-use Rattle.commands.specs.Outside.{Outside, Wire, IsQuiet}
-use Rattle.commands.specs.Scripts.{IsJudgedScript}
-use Rattle.commands.specs.Links.{IsOpenedOnce, IsQuietOrOpened, TellsToTheEnd}
-use Rattle.commands.specs.Statuses.{IsDone, IsConfigRefused, IsScriptRefused, IsUnread, IsUnwritten, IsOutOfMemory, IsUnopened, IsTooLong, IsPerformed}
-use Rattle.commands.specs.Sessions.{NamesLong}
+use Rattle.cmd_base.specs.declared.status.Status.{Status}
+use Rattle.cmd_base.specs.declared.status.Status.TheVariants.{Done, ConfigRefused, NoSource, ScriptRefused, Unread, Unwritten, OutOfMemory, Unopened, Long}
+use Rattle.cmd_base.specs.Configurations.{IsJudged, EndsConfigFile}
+use Rattle.cmd_base.specs.Files.{IsLong, IsTold}
+use Rattle.cmd_base.specs.Outside.{Outside, Wire, IsQuiet}
+use Rattle.cmd_base.specs.Scripts.{IsJudgedScript}
+use Rattle.cmd_base.specs.Links.{IsOpenedOnce, IsQuietOrOpened, TellsToTheEnd}
+use Rattle.cmd_base.specs.Statuses.{IsDone, IsConfigRefused, IsScriptRefused, IsUnread, IsUnwritten, IsOutOfMemory, IsUnopened, IsTooLong, IsPerformed}
+use Rattle.cmd_base.specs.Sessions.{NamesLong}
 use Rattle.cmd_relay.specs.declared.command.Accepted.{Accepted}
 use Rattle.cmd_relay.specs.Links.{LeavesUnopened, opening_again}
 use Rattle.cmd_relay.specs.Relaying.{IsRelayOf}

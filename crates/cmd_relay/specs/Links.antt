@@ -3,8 +3,8 @@ use Rattle.std.specs.Prelude.{◌≡◌, ◌≢◌, ◌≤◌, ◌⊎◌, ℕ, [
 use Rattle.ua_base.specs.Cause.{Rose}
 use Rattle.ua_base.specs.Links.{Opening, TellsOn}
 use Rattle.ps_config.specs.declared.parts.Config.{Config}
-use Rattle.commands.specs.Links.{IsOpenedOnce}
-use Rattle.commands.specs.Outside.{Wire}
+use Rattle.cmd_base.specs.Links.{IsOpenedOnce}
+use Rattle.cmd_base.specs.Outside.{Wire}
 
 -- the second configuration's port, and no fates
 abbrev pub opening_again : Config → Opening

@@ -4,14 +4,14 @@ ghost use Rattle.ua_base.specs.Cause.{Rose};
 ghost use Rattle.ps_config.specs.Types.{HasTypes};
 ghost use Rattle.ps_script.specs.Sound.{IsScript};
 ghost use Rattle.writer_group.specs.Standing.{IsGood};
-ghost use Rattle.commands.specs.Outside.{KeepsFolder, outside_of, wire_of};
-ghost use Rattle.commands.specs.Statuses.{IsDone, IsUnread, IsUnwritten};
-ghost use Rattle.commands.specs.Links.{IsBeforeLink};
+ghost use Rattle.cmd_base.specs.Outside.{KeepsFolder, outside_of, wire_of};
+ghost use Rattle.cmd_base.specs.Statuses.{IsDone, IsUnread, IsUnwritten};
+ghost use Rattle.cmd_base.specs.Links.{IsBeforeLink};
 ghost use Rattle.cmd_relay.specs.Ends.{Accepts, EndsAccepting, EndsSecond, IsSecond, RelayEnds, WritesRelay, names_of};
 
 use crate::relaying::relayed_text;
 use crate::sources::unsourced;
-use commands::{Status, read_configuration, script_in, status_of, write_text};
+use cmd_base::{Status, read_configuration, script_in, status_of, write_text};
 use ps_config::Config;
 use ps_script::Script;
 use std::alloc::Global;

@@ -10,7 +10,7 @@ ghost use Rattle.ps_script.specs.Sessions.{ticks_in};
 ghost use Rattle.ps_script.specs.Sound.{IsScript};
 ghost use Rattle.writer_group.specs.Standing.{IsGood};
 ghost use Rattle.session_model.specs.Counts.{session_nothings};
-ghost use Rattle.commands.specs.Outside.{wire_of};
+ghost use Rattle.cmd_base.specs.Outside.{wire_of};
 ghost use Rattle.script_player.specs.Passing.{MayPass, nothings_by};
 ghost use Rattle.script_player.specs.Player.{IsPlayer, MayDo, config_of};
 ghost use Rattle.script_player.specs.Plays.{opening_of};

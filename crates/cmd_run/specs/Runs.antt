@@ -1,9 +1,9 @@
 -- How the command `run` ends.
 use Rattle.std.specs.Prelude.{ℕ, false, List, Option}
 use Rattle.script_runner.specs.Runs.{IsRunOf}
-use Rattle.commands.specs.declared.status.Status.{Status}
-use Rattle.commands.specs.Outside.{Outside, Wire}
-use Rattle.commands.specs.Sessions.{IsReportOf, SessionEnds, takes_all}
+use Rattle.cmd_base.specs.declared.status.Status.{Status}
+use Rattle.cmd_base.specs.Outside.{Outside, Wire}
+use Rattle.cmd_base.specs.Sessions.{IsReportOf, SessionEnds, takes_all}
 
 -- With a run of the script, which may give no fates: there are a legal history of each data set and versions of it that the ticks sampled. old, new: what the
 -- folder and the output tell before and behind; before, after: what the link tells

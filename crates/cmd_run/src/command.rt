@@ -6,13 +6,13 @@ ghost use Rattle.writer_group.specs.Standing.{IsGood};
 ghost use Rattle.script_player.specs.Openings.{PerformsOver};
 ghost use Rattle.script_player.specs.Plays.{opening_of};
 ghost use Rattle.script_runner.specs.Runs.{IsRunOf};
-ghost use Rattle.commands.specs.Outside.{outside_of, wire_of};
-ghost use Rattle.commands.specs.Statuses.{IsDone, IsUnwritten};
-ghost use Rattle.commands.specs.Links.{IsBeforeLink};
-ghost use Rattle.commands.specs.Sessions.{IsReportOf};
+ghost use Rattle.cmd_base.specs.Outside.{outside_of, wire_of};
+ghost use Rattle.cmd_base.specs.Statuses.{IsDone, IsUnwritten};
+ghost use Rattle.cmd_base.specs.Links.{IsBeforeLink};
+ghost use Rattle.cmd_base.specs.Sessions.{IsReportOf};
 ghost use Rattle.cmd_run.specs.Runs.{RunEnds};
 
-use commands::{Accepted, Status, accept, status_of, write_text};
+use cmd_base::{Accepted, Status, accept, status_of, write_text};
 use ps_report::report;
 use report_laws::closed_sessions_are_reported;
 use script_player::PlayEnd;

@@ -11,16 +11,16 @@ use Rattle.writer_group.specs.Turns.{GroupDeed, GroupTurn}
 use Rattle.writer_group.specs.declared.datagrams.Datagrams.{Datagrams}
 use Rattle.writer_group.specs.declared.sampled.Sampled.{Sampled}
 use Rattle.session_laws.specs.Pasts.{IsMade, WasMade}
-use Rattle.device_sides.specs.Coming.{HasItsTurn, HasMadeSome, IsRefreshedFor, turned_to}
-use Rattle.device_sides.specs.Resuming.{IsRefreshedWith}
-use Rattle.device_sides.specs.Coming.{HasOtherToken}
-use Rattle.device_sides.specs.Sides.{IsOpeningSide, IsPublisher}
-use Rattle.device_sides.specs.declared.asked.Next.{Next}
-use Rattle.device_sides.specs.declared.asked.Next.TheVariants.{Datagram, Nothing, Spent}
-use Rattle.device_sides.specs.declared.looking.Looked.{Looked}
-use Rattle.device_sides.specs.declared.looking.Looked.TheVariants.{Held, Idle, Made}
-use Rattle.device_sides.specs.declared.publisher.Publisher.{Publisher}
-use Rattle.device_sides.specs.declared.side.Side.{Side}
+use Rattle.device.specs.Coming.{HasItsTurn, HasMadeSome, IsRefreshedFor, turned_to}
+use Rattle.device.specs.Resuming.{IsRefreshedWith}
+use Rattle.device.specs.Coming.{HasOtherToken}
+use Rattle.device.specs.Sides.{IsOpeningSide, IsPublisher}
+use Rattle.device.specs.declared.asked.Next.{Next}
+use Rattle.device.specs.declared.asked.Next.TheVariants.{Datagram, Nothing, Spent}
+use Rattle.device.specs.declared.looking.Looked.{Looked}
+use Rattle.device.specs.declared.looking.Looked.TheVariants.{Held, Idle, Made}
+use Rattle.device.specs.declared.publisher.Publisher.{Publisher}
+use Rattle.device.specs.declared.side.Side.{Side}
 use Rattle.device_laws.specs.Publishing.{ArePublisherSteps, CameTo, ComesBy, HandedOver, HasOffered, IsOpenPublisher, IsPublisherCall, Waits, Offers, PublisherCall, PublisherStep, Refused, Renewed, Resumed, SetField, SetStatus, SetWord, Switched, Waited, publisher_after}
 use Rattle.device_laws.specs.Turning.{came_on, fresh_on, looked_on, past_by, past_of, turn_at}
 use Rattle.device_laws.proofs.Elements.{element, push-own, zip-length}

@@ -33,10 +33,10 @@ use Rattle.group_laws.specs.Matching.{IsMatchedTo}
 use Rattle.session_laws.specs.Below.{RingLaw}
 use Rattle.session_laws.specs.Pasts.{CameAsMade, IsMade}
 use Rattle.session_laws.specs.Plays.{ComesFromWriter, HoldsVersion, IsPlay, Play, its_marks, its_member, its_meta, its_way}
-use Rattle.device_sides.specs.declared.listening.Listening.{Listening}
-use Rattle.device_sides.specs.declared.subscriber.Subscriber.{Subscriber}
-use Rattle.device_sides.specs.Readings.{IsReaderAt}
-use Rattle.device_sides.specs.Sides.{HasListened, TakesNumber}
+use Rattle.device.specs.declared.listening.Listening.{Listening}
+use Rattle.device.specs.declared.subscriber.Subscriber.{Subscriber}
+use Rattle.device.specs.Readings.{IsReaderAt}
+use Rattle.device.specs.Sides.{HasListened, TakesNumber}
 use Rattle.device_laws.specs.Devices.{ArePaired, ArePairedByOne, HasSentFew, HoldsNamed, IsCounted, member_in, play_of}
 use Rattle.device_laws.specs.Publishing.{HasOffered, PublisherLife, config_in}
 use Rattle.device_laws.specs.Subscribing.{AreOwnKeys, AreSubscriberSteps, Came, Expired, IsOpenSubscriber, IsSubscriberCall, IsTaken, Only, Reading, Refused, Renewed, SubscriberCall, SubscriberLife, SubscriberStep, Switched, TakenAre, event_by, events, events_in, is_for, reading, readers_on, setting_in, some_if, subscriber_after, subscriber_in}

@@ -15,7 +15,7 @@ use Rattle.writer_group.specs.Parts.{group_at, no_group}
 use Rattle.group_laws.specs.Matching.{IsMatchedTo}
 use Rattle.session_laws.specs.Pasts.{CameAsMade, IsMade}
 use Rattle.session_laws.specs.Plays.{IsPlay, Play, its_member, its_meta}
-use Rattle.device_sides.specs.Readings.{IsReaderAt}
+use Rattle.device.specs.Readings.{IsReaderAt}
 use Rattle.device_laws.specs.Devices.{HasSentFew, HoldsNamed, IsCounted, member_in}
 use Rattle.device_laws.specs.Publishing.{HasOffered, PublisherLife, config_in}
 use Rattle.device_laws.specs.Pulled.{config_with}

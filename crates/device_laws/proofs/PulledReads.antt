@@ -35,9 +35,9 @@ use Rattle.session_laws.specs.Plays.{IsPlay, Play, its_member, its_meta}
 use Rattle.session_laws.proofs.HeldRows.KnownTokens.{known-token}
 use Rattle.turn_laws.proofs.Keyed.{other-keys}
 use Rattle.turn_laws.proofs.Signed.{matched-secured}
-use Rattle.device_sides.specs.declared.subscriber.Subscriber.{Subscriber}
-use Rattle.device_sides.specs.Readings.{IsReaderAt}
-use Rattle.device_sides.specs.Sides.{HasListened}
+use Rattle.device.specs.declared.subscriber.Subscriber.{Subscriber}
+use Rattle.device.specs.Readings.{IsReaderAt}
+use Rattle.device.specs.Sides.{HasListened}
 use Rattle.device_laws.specs.Devices.{HasSentFew, HoldsNamed, IsCounted, member_in}
 use Rattle.device_laws.specs.Publishing.{HasOffered, PublisherLife, config_in}
 use Rattle.device_laws.specs.Pulled.{AllKeysAreKnown, AreKnownKeys, IsPulledPair, KeysAreKnown, config_with}

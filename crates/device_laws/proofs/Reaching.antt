@@ -6,9 +6,9 @@ use Rattle.std.specs.Option.{option_map_or}
 use Rattle.std.proofs.lemmas.Bool.Decides.{eqb_tells}
 use Rattle.std.proofs.lemmas.Option.{get_or_from_slice_get}
 use Rattle.reader_group.specs.Filter.{takes_number}
-use Rattle.device_sides.specs.declared.listening.Listening.{Listening}
-use Rattle.device_sides.specs.declared.subscriber.Subscriber.{Subscriber}
-use Rattle.device_sides.specs.Sides.{PassesNumber, TakesNumber}
+use Rattle.device.specs.declared.listening.Listening.{Listening}
+use Rattle.device.specs.declared.subscriber.Subscriber.{Subscriber}
+use Rattle.device.specs.Sides.{PassesNumber, TakesNumber}
 use Rattle.device_laws.specs.Subscribing.{is_for, takes_at}
 
 -- it comes to the read group with index r, which takes its number

@@ -42,8 +42,8 @@ use Rattle.turn_laws.proofs.LifeReading.{IsRead, IsReadWith, TakenWereMadeOn, We
 use Rattle.turn_laws.proofs.Naming.{near-names, near-numbers}
 use Rattle.turn_laws.proofs.Sharing.{own-risen}
 use Rattle.turn_laws.proofs.Signed.{SignedLaw, events-contents, held, made-for, matched-secured}
-use Rattle.device_sides.specs.declared.subscriber.Subscriber.{Subscriber}
-use Rattle.device_sides.specs.Sides.{HasListened}
+use Rattle.device.specs.declared.subscriber.Subscriber.{Subscriber}
+use Rattle.device.specs.Sides.{HasListened}
 use Rattle.device_laws.specs.Deeds.{deeds_in}
 use Rattle.device_laws.specs.Devices.{HoldsWhole, IsCounted, member_in}
 use Rattle.device_laws.specs.Publishing.{HasOffered, PublisherLife, config_in}

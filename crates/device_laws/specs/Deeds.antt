@@ -6,9 +6,9 @@ use Rattle.ps_config.specs.declared.parts.Config.{Config}
 use Rattle.pubsub_states.specs.declared.component.Component.TheVariants.{Group, Writer}
 use Rattle.writer_group.specs.Turns.{GroupTurn}
 use Rattle.session_model.specs.Deeds.{Deed, RefreshedBelow, CameTo as CameToMoment, TookTurn, RenewedKeys, group_past}
-use Rattle.device_sides.specs.declared.looking.Looked.{Looked}
-use Rattle.device_sides.specs.declared.looking.Looked.TheVariants.{Held, Idle, Made}
-use Rattle.device_sides.specs.declared.publisher.Publisher.{Publisher}
+use Rattle.device.specs.declared.looking.Looked.{Looked}
+use Rattle.device.specs.declared.looking.Looked.TheVariants.{Held, Idle, Made}
+use Rattle.device.specs.declared.publisher.Publisher.{Publisher}
 use Rattle.device_laws.specs.Publishing.{PublisherCall, PublisherLife, PublisherStep, SetField, SetWord, SetStatus, Waited, CameTo, HandedOver, Switched, Renewed, Resumed, Refused, publisher_after}
 use Rattle.device_laws.specs.Turning.{is_rekeyed, turn_at}
 

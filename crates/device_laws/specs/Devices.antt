@@ -17,8 +17,8 @@ use Rattle.writer_group.specs.Turns.{writer_past}
 use Rattle.group_laws.specs.Matching.{IsMatchedTo}
 use Rattle.session_laws.specs.Pasts.{answered_by, settings_at}
 use Rattle.session_laws.specs.Plays.{Play}
-use Rattle.device_sides.specs.Readings.{IsReaderAt}
-use Rattle.device_sides.specs.declared.listening.Listening.{Listening}
+use Rattle.device.specs.Readings.{IsReaderAt}
+use Rattle.device.specs.declared.listening.Listening.{Listening}
 use Rattle.device_laws.specs.Publishing.{AreOwnRings, HasOffered, IsPublisherLife, PublisherLife, config_in, publisher_in}
 use Rattle.device_laws.specs.Histories.{history_in, row_at, sampled_at}
 use Rattle.device_laws.specs.Subscribing.{AreOwnKeys, IsSubscriberLife, SubscriberLife, TakenAre, events_in, reading_in, setting_in, subscriber_in}

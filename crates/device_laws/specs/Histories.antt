@@ -7,7 +7,7 @@ use Rattle.row_words.specs.Belonging.{row_in}
 use Rattle.ps_config.specs.declared.parts.Config.{Config}
 use Rattle.writer_group.specs.Turns.{no_sample}
 use Rattle.writer_group.specs.declared.sampled.Sampled.{Sampled}
-use Rattle.device_sides.specs.declared.publisher.Publisher.{Publisher}
+use Rattle.device.specs.declared.publisher.Publisher.{Publisher}
 use Rattle.device_laws.specs.Publishing.{PublisherCall, PublisherLife, PublisherStep, SetField, SetWord, SetStatus, Waited, CameTo, HandedOver, Switched, Renewed, Resumed, Refused}
 
 -- what the publisher has for the data set with this index

@@ -9,15 +9,15 @@ use Rattle.ps_config.specs.declared.parts.Config.{Config}
 use Rattle.ps_config.specs.Reading.{configuration}
 use Rattle.ps_config.specs.Types.{HasTypes}
 use Rattle.writer_group.specs.Standing.{datagrams_in}
-use Rattle.device_sides.specs.declared.asked.Next.{Next}
-use Rattle.device_sides.specs.declared.asked.Next.TheVariants.{Datagram, Nothing, Spent}
-use Rattle.device_sides.specs.declared.looking.Looked.{Looked}
-use Rattle.device_sides.specs.declared.looking.Looked.TheVariants.{Made}
-use Rattle.device_sides.specs.declared.publisher.Publisher.{Publisher}
-use Rattle.device_sides.specs.declared.side.Side.{Side}
-use Rattle.device_sides.specs.Coming.{Comes, HasCome, turned_to}
-use Rattle.device_sides.specs.Resuming.{IsBehind}
-use Rattle.device_sides.specs.Sides.{AreOpeningSides, HasRenewed, HasSet, HasSetStatus, HasSetWord, HasWriterSwitched, IsOpeningRow, IsOpeningSender, IsPublisher, configured_sets}
+use Rattle.device.specs.declared.asked.Next.{Next}
+use Rattle.device.specs.declared.asked.Next.TheVariants.{Datagram, Nothing, Spent}
+use Rattle.device.specs.declared.looking.Looked.{Looked}
+use Rattle.device.specs.declared.looking.Looked.TheVariants.{Made}
+use Rattle.device.specs.declared.publisher.Publisher.{Publisher}
+use Rattle.device.specs.declared.side.Side.{Side}
+use Rattle.device.specs.Coming.{Comes, HasCome, turned_to}
+use Rattle.device.specs.Resuming.{IsBehind}
+use Rattle.device.specs.Sides.{AreOpeningSides, HasRenewed, HasSet, HasSetStatus, HasSetWord, HasWriterSwitched, IsOpeningRow, IsOpeningSender, IsPublisher, configured_sets}
 
 -- ---- calls
 

@@ -20,7 +20,7 @@ use Rattle.session_laws.specs.Pasts.{answered_by}
 use Rattle.session_laws.specs.Plays.{IsAnswerBy, ItemsAre}
 use Rattle.turn_laws.specs.Lives.{TokensNameKeys, marks_on}
 use Rattle.turn_laws.specs.Sent.{place_near, sends_in}
-use Rattle.device_sides.specs.declared.subscriber.Subscriber.{Subscriber}
+use Rattle.device.specs.declared.subscriber.Subscriber.{Subscriber}
 use Rattle.device_laws.specs.Deeds.{AreUnresumed, deeds_in}
 use Rattle.device_laws.specs.Devices.{HoldsWhole, MemoryHolds, member_in}
 use Rattle.device_laws.specs.Publishing.{HasOffered, IsPublisherLife, PublisherCall, PublisherLife, PublisherStep, Renewed, config_in}

@@ -4,11 +4,11 @@ use Rattle.ua_values.specs.declared.value.Value.{Value}
 use Rattle.reader_group.specs.declared.refusal.Refusal.{Refusal}
 use Rattle.reader_group.specs.declared.refusal.Taken.{Taken}
 use Rattle.writer_group.specs.Standing.{datagrams_in}
-use Rattle.device_sides.specs.declared.asked.Next.TheVariants.{Datagram}
-use Rattle.device_sides.specs.declared.publisher.Publisher.{Publisher}
-use Rattle.device_sides.specs.declared.subscriber.Subscriber.{Subscriber}
-use Rattle.device_sides.specs.Coming.{ComesTo}
-use Rattle.device_sides.specs.Sides.{HasListened, HasSet, IsPublisher, IsSubscriber}
+use Rattle.device.specs.declared.asked.Next.TheVariants.{Datagram}
+use Rattle.device.specs.declared.publisher.Publisher.{Publisher}
+use Rattle.device.specs.declared.subscriber.Subscriber.{Subscriber}
+use Rattle.device.specs.Coming.{ComesTo}
+use Rattle.device.specs.Sides.{HasListened, HasSet, IsPublisher, IsSubscriber}
 use Rattle.device_laws.specs.declared.run.Pair.{Pair}
 use Rattle.device_laws.specs.Devices.{ArePairedByOne, HasSentFew, IsCounted}
 use Rattle.device_laws.specs.Publishing.{IsOpenPublisher, PublisherLife, publisher_in}

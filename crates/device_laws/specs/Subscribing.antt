@@ -12,9 +12,9 @@ use Rattle.reader_group.specs.Plain.{Event, PlainGroup, Setting, opening, step, 
 use Rattle.reader_group.specs.Settings.{setting_of}
 use Rattle.reader_group.specs.declared.refusal.Refusal.{Refusal}
 use Rattle.reader_group.specs.declared.refusal.Taken.{Taken}
-use Rattle.device_sides.specs.declared.subscriber.Subscriber.{Subscriber}
-use Rattle.device_sides.specs.Readings.{HasKeysRenewed, HasNumber, HasReaderSwitched, HaveExpired}
-use Rattle.device_sides.specs.Sides.{AreOpeningListenings, HasListened, IsSubscriber}
+use Rattle.device.specs.declared.subscriber.Subscriber.{Subscriber}
+use Rattle.device.specs.Readings.{HasKeysRenewed, HasNumber, HasReaderSwitched, HaveExpired}
+use Rattle.device.specs.Sides.{AreOpeningListenings, HasListened, IsSubscriber}
 
 -- ---- calls
 

@@ -7,12 +7,12 @@ use Rattle.ps_config.specs.declared.parts.Config.{Config}
 use Rattle.writer_group.specs.Parts.{group_at}
 use Rattle.writer_group.specs.Standing.{input_of}
 use Rattle.writer_group.specs.Turns.{GroupDeed, GroupTurn, HadGroupTurn, RefreshedWriter, TurnInput, turned}
-use Rattle.device_sides.specs.declared.looking.Looked.{Looked}
-use Rattle.device_sides.specs.declared.looking.Looked.TheVariants.{Held, Idle, Made}
-use Rattle.device_sides.specs.declared.publisher.Publisher.{Publisher}
-use Rattle.device_sides.specs.Coming as coming
-use Rattle.device_sides.specs.Coming.{refreshed_first}
-use Rattle.device_sides.specs.Sides.{sender_for}
+use Rattle.device.specs.declared.looking.Looked.{Looked}
+use Rattle.device.specs.declared.looking.Looked.TheVariants.{Held, Idle, Made}
+use Rattle.device.specs.declared.publisher.Publisher.{Publisher}
+use Rattle.device.specs.Coming as coming
+use Rattle.device.specs.Coming.{refreshed_first}
+use Rattle.device.specs.Sides.{sender_for}
 use Rattle.device_laws.specs.Publishing.{PublisherCall, PublisherLife, PublisherStep, SetField, SetWord, SetStatus, Waited, CameTo, HandedOver, Switched, Renewed, Resumed, Refused, publisher_after}
 
 -- ---- refreshes

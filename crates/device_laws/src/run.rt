@@ -1,9 +1,9 @@
 //! A small run of two devices, which is one of the lives that the laws speak of.
 ghost use Rattle.std.specs.Prelude.{IfOk, IfSome};
-ghost use Rattle.device_sides.specs.Sides.{IsPublisher, IsSubscriber};
+ghost use Rattle.device.specs.Sides.{IsPublisher, IsSubscriber};
 ghost use Rattle.device_laws.specs.Small.{HasRun};
 
-use device_sides::{Next, Publisher, Subscriber};
+use device::{Next, Publisher, Subscriber};
 use ps_config::ConfigEnd;
 use std::alloc::Global;
 use ua_values::Value;

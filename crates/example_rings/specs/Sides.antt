@@ -1,7 +1,7 @@
 -- The two sides of the session, between two calls.
-use Rattle.device_sides.specs.Sides.{IsPublisher, IsSubscriber}
-use Rattle.device_sides.specs.declared.publisher.Publisher.{Publisher}
-use Rattle.device_sides.specs.declared.subscriber.Subscriber.{Subscriber}
+use Rattle.device.specs.Sides.{IsPublisher, IsSubscriber}
+use Rattle.device.specs.declared.publisher.Publisher.{Publisher}
+use Rattle.device.specs.declared.subscriber.Subscriber.{Subscriber}
 
 -- each is as its calls ask for
 pub record AreSides (publisher : Publisher) (subscriber : Subscriber) : Type 0 where

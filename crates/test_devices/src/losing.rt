@@ -1,9 +1,9 @@
 //! A datagram is lost on its way, and the reader waits for the next key frame.
 ghost use Rattle.std.specs.Prelude.{IfOk};
-ghost use Rattle.device_sides.specs.Sides.{IsPublisher, IsSubscriber};
+ghost use Rattle.device.specs.Sides.{IsPublisher, IsSubscriber};
 
 use dataset_reader::Why;
-use device_sides::{Next, NoValue, Publisher, Subscriber};
+use device::{Next, NoValue, Publisher, Subscriber};
 use std::alloc::Global;
 use std::test::Fail;
 use ua_values::{Kind, Value};

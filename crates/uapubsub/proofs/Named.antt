@@ -29,13 +29,13 @@ use Rattle.script_runner.specs.Running.{sample_at}
 use Rattle.script_runner.specs.Runs.{IsRunOf}
 use Rattle.writer_group.specs.declared.sampled.Sampled.{Sampled}
 use Rattle.writer_group.specs.Turns.{no_sample}
-use Rattle.commands.specs.declared.status.Status.{Status}
-use Rattle.commands.specs.declared.status.Status.TheVariants.{Done, BadWords, ConfigRefused, NoSource, ScriptRefused, NotInLanes, Unread, Unwritten, OutOfMemory, Unopened, Long}
-use Rattle.commands.specs.Outside.{Outside, Wire}
-use Rattle.commands.specs.Statuses.{number_of}
-use Rattle.commands.specs.Checks.{Checks}
-use Rattle.commands.specs.Links.{IsBeforeLink as IsStatusBeforeLink}
-use Rattle.commands.specs.Sessions.{IsReportOf, Performance, Refusal, Says, Text, takes_all}
+use Rattle.cmd_base.specs.declared.status.Status.{Status}
+use Rattle.cmd_base.specs.declared.status.Status.TheVariants.{Done, BadWords, ConfigRefused, NoSource, ScriptRefused, NotInLanes, Unread, Unwritten, OutOfMemory, Unopened, Long}
+use Rattle.cmd_base.specs.Outside.{Outside, Wire}
+use Rattle.cmd_base.specs.Statuses.{number_of}
+use Rattle.cmd_base.specs.Checks.{Checks}
+use Rattle.cmd_base.specs.Links.{IsBeforeLink as IsStatusBeforeLink}
+use Rattle.cmd_base.specs.Sessions.{IsReportOf, Performance, Refusal, Says, Text, takes_all}
 use Rattle.cmd_load.specs.Loads.{Loads, Output}
 use Rattle.cmd_json.specs.Jsons.{IsJsonOf}
 use Rattle.cmd_keys.proofs.Told.{no_usage as keys_is_no_usage}

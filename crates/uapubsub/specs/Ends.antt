@@ -1,11 +1,11 @@
 -- How the program ends: what each command does, and what a status says by its number.
 use Rattle.std.specs.Prelude.{◌≡◌, ◌⊎◌, ℕ, List, Option, Bool, true, false}
-use Rattle.commands.specs.declared.status.Status.{Status}
-use Rattle.commands.specs.Outside.{Outside, Wire}
-use Rattle.commands.specs.Statuses.{number_of, text_of}
-use Rattle.commands.specs.Telling.{WritesText}
-use Rattle.commands.specs.Checks.{CheckEnds}
-use Rattle.commands.specs.Plays.{PlayEnds}
+use Rattle.cmd_base.specs.declared.status.Status.{Status}
+use Rattle.cmd_base.specs.Outside.{Outside, Wire}
+use Rattle.cmd_base.specs.Statuses.{number_of, text_of}
+use Rattle.cmd_base.specs.Telling.{WritesText}
+use Rattle.cmd_base.specs.Checks.{CheckEnds}
+use Rattle.cmd_base.specs.Plays.{PlayEnds}
 use Rattle.cmd_run.specs.Runs.{RunEnds}
 use Rattle.cmd_load.specs.Loads.{LoadEnds, Output}
 use Rattle.cmd_json.specs.Jsons.{JsonEnds}

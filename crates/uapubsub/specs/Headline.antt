@@ -19,8 +19,8 @@ use Rattle.session_laws.specs.Telling.{HasRun, TellsHeadline}
 use Rattle.script_player.specs.Plays.{IsPlayOf, plan_by, row_written, writers_in}
 use Rattle.script_runner.specs.Legal.{row_made}
 use Rattle.script_runner.specs.Runs.{IsRunOf}
-use Rattle.commands.specs.Outside.{Outside, Wire}
-use Rattle.commands.specs.Sessions.{Accepts}
+use Rattle.cmd_base.specs.Outside.{Outside, Wire}
+use Rattle.cmd_base.specs.Sessions.{Accepts}
 
 -- the threads of a legal order of writes that makes each data set's single history, in that order; of a played script it is that of its lines
 abbrev pub Threads : Type 0

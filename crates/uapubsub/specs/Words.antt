@@ -1,7 +1,7 @@
 -- What the words of the command line ask for.
 use Rattle.std.specs.Prelude.{◌≤◌, ⊤, ℕ, List, [], ◌∷◌, Option, Some, None, codes, ◌&&◌, if◌then◌else◌, option_copied, option_map}
 use Rattle.std.specs.Str.{bytes_eq}
-use Rattle.commands.specs.Words.{is_file_name}
+use Rattle.cmd_base.specs.Words.{is_file_name}
 use Rattle.cmd_keys.specs.declared.words.Asked.{Asked}
 use Rattle.cmd_keys.specs.Words.{keys_of}
 use Rattle.cmd_load.specs.Numbers.{load_number}

@@ -4,8 +4,8 @@
 ghost use Rattle.std.specs.Prelude.{◌≡◌, ◌≢◌};
 ghost use Rattle.std.specs.Process.{exit_status};
 ghost use Rattle.std.specs.declared.io.ErrorKind.TheVariants.{OutOfMemory};
-ghost use Rattle.commands.specs.Statuses.{number_of, text_of};
-ghost use Rattle.commands.specs.Telling.{WritesText};
+ghost use Rattle.cmd_base.specs.Statuses.{number_of, text_of};
+ghost use Rattle.cmd_base.specs.Telling.{WritesText};
 
 #[cfg(test)]
 mod gated;
@@ -18,7 +18,7 @@ mod tests;
 mod top;
 mod words;
 
-use commands::{Status, Word, tell};
+use cmd_base::{Status, Word, tell};
 use mem_edge::{MemoryLink, OpenGate};
 use std::alloc::Global;
 use std::env;

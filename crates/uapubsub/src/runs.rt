@@ -1,6 +1,6 @@
 //! Runs of the program over an outside in memory.
 use crate::top::top;
-use commands::Word;
+use cmd_base::Word;
 use mem_edge::{MemoryFolder, MemoryLink, MemorySink, Name};
 use std::alloc::{AllocError, Global};
 use std::sync::Wait;

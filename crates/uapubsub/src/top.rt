@@ -1,22 +1,22 @@
 //! The whole program over an outside that is handed in.
 ghost use Rattle.std.specs.Prelude.{◌≡◌, ◌≢◌, ◌↔◌, ◌≤◌, ℕ, List, Option, Some, None, true, false};
-ghost use Rattle.commands.specs.Outside.{outside_of, wire_of};
-ghost use Rattle.commands.specs.Statuses.{IsDone, IsUnwritten, number_of, text_of};
-ghost use Rattle.commands.specs.Telling.{WritesText};
-ghost use Rattle.commands.specs.Links.{IsBeforeLink as IsStatusBeforeLink};
+ghost use Rattle.cmd_base.specs.Outside.{outside_of, wire_of};
+ghost use Rattle.cmd_base.specs.Statuses.{IsDone, IsUnwritten, number_of, text_of};
+ghost use Rattle.cmd_base.specs.Telling.{WritesText};
+ghost use Rattle.cmd_base.specs.Links.{IsBeforeLink as IsStatusBeforeLink};
 ghost use Rattle.cmd_relay.specs.Ends.{WritesRelay, names_of};
 ghost use Rattle.uapubsub.specs.Words.{IsBounded, Shape, Play, Relay, Run, shape_by, shape_of};
 ghost use Rattle.uapubsub.specs.Ends.{Does, EndsAs, IsBeforeLink, uses_folder, uses_lab, uses_wire, world_of};
 ghost use Rattle.uapubsub.specs.Headline.{WritesPlay, WritesRun};
 
 use crate::words::{Command, command_in};
+use cmd_base::{Status, Word, check, play, tell};
 use cmd_json::json;
 use cmd_keys::keys;
 use cmd_lanes::lanes;
 use cmd_load::load;
 use cmd_relay::relay;
 use cmd_run::run;
-use commands::{Status, Word, check, play, tell};
 use std::alloc::Global;
 use std::sync::Wait;
 use std::thread::Threads;

@@ -2,9 +2,9 @@
 ghost use Rattle.std.specs.Prelude.{◌≡◌, IfSome, option_copied, option_map};
 ghost use Rattle.uapubsub.specs.Words.{IsBounded, check_shape, long_shape, named_shape, relay_shape, script_shape, shape_by, shape_of, short_shape};
 
+use cmd_base::{Word, names_file};
 use cmd_keys::{Asked, keys_in};
 use cmd_load::load_number;
-use commands::{Word, names_file};
 
 /// What the words ask for.
 #[derive(Clone, Copy)]

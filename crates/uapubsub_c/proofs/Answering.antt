@@ -2,8 +2,8 @@
 use Rattle.std.proofs.Common.{◌≡◌, ℕ, Result, Err, IfErr, IfOk, refl, subst, sym, ◌∙◌}
 use Rattle.std.proofs.lemmas.Option.{same_Some}
 use Rattle.ps_config.specs.declared.parts.Config.{Config}
-use Rattle.device_sides.specs.declared.publisher.Publisher.{Publisher as PublisherValue}
-use Rattle.device_sides.specs.declared.subscriber.Subscriber.{Subscriber as SubscriberValue}
+use Rattle.device.specs.declared.publisher.Publisher.{Publisher as PublisherValue}
+use Rattle.device.specs.declared.subscriber.Subscriber.{Subscriber as SubscriberValue}
 use Rattle.uapubsub_c.specs.Answers.{Answered, Asks, Calls, OfConfig, OfPublisher, OfSubscriber, Stays}
 use Rattle.uapubsub_c.specs.Handles.{Holds, IsReady, config_in}
 use Rattle.uapubsub_c.specs.Numbers.{number_of}

@@ -4,9 +4,9 @@ use Rattle.dataset_meta.specs.Metas.{MetaData}
 use Rattle.dataset_reader.specs.declared.reader.Reader.{Reader}
 use Rattle.dataset_reader.specs.Kept.{Kept}
 use Rattle.dataset_reader.specs.Reader.{kept_by}
-use Rattle.device_sides.specs.Readings.{IsReaderAt, Keeps, meta_for}
-use Rattle.device_sides.specs.declared.publisher.Publisher.{Publisher}
-use Rattle.device_sides.specs.declared.subscriber.Subscriber.{Subscriber}
+use Rattle.device.specs.Readings.{IsReaderAt, Keeps, meta_for}
+use Rattle.device.specs.declared.publisher.Publisher.{Publisher}
+use Rattle.device.specs.declared.subscriber.Subscriber.{Subscriber}
 use Rattle.uapubsub_c.specs.Setting.{Sets}
 use Rattle.uapubsub_c.specs.declared.status.Status.{Status}
 

@@ -1,9 +1,9 @@
 -- What calls tell C of the age of rows, and of timeouts.
 use Rattle.std.specs.Prelude.{ℕ, All, None, Result}
 use Rattle.std.specs.List.{Any}
-use Rattle.device_sides.specs.Due.{AreInTime, HasTimeout, IsFirst, IsNever}
-use Rattle.device_sides.specs.Readings.{HasAge, IsConfirmedFor, IsFreshFor, IsStale}
-use Rattle.device_sides.specs.declared.subscriber.Subscriber.{Subscriber}
+use Rattle.device.specs.Due.{AreInTime, HasTimeout, IsFirst, IsNever}
+use Rattle.device.specs.Readings.{HasAge, IsConfirmedFor, IsFreshFor, IsStale}
+use Rattle.device.specs.declared.subscriber.Subscriber.{Subscriber}
 use Rattle.uapubsub_c.specs.Answers.{Answers}
 use Rattle.uapubsub_c.specs.Reading.{HasNoReader}
 use Rattle.uapubsub_c.specs.declared.status.Status.{Status}

@@ -5,9 +5,9 @@ use Rattle.std.specs.Fn.{FnOnceReturnsAtMut}
 use denote.Param.Members.{Once}
 use denote.Ref.{Bor}
 use Rattle.ps_config.specs.declared.parts.Config.{Config}
-use Rattle.device_sides.specs.declared.publisher.Publisher.{Publisher as PublisherValue}
-use Rattle.device_sides.specs.declared.subscriber.Subscriber.{Subscriber as SubscriberValue}
-use Rattle.device_sides.specs.Sides.{IsPublisher, IsSubscriber}
+use Rattle.device.specs.declared.publisher.Publisher.{Publisher as PublisherValue}
+use Rattle.device.specs.declared.subscriber.Subscriber.{Subscriber as SubscriberValue}
+use Rattle.device.specs.Sides.{IsPublisher, IsSubscriber}
 use Rattle.uapubsub_c.specs.Handles.{Holds, IsReady, Tells, config_in}
 use Rattle.uapubsub_c.specs.Numbers.{number_of}
 use Rattle.uapubsub_c.specs.declared.handle.Handle.{Handle}

@@ -7,9 +7,9 @@ use Rattle.ua_binary.specs.Types.{kind_with}
 use Rattle.dataset_meta.specs.Metas.{MetaData}
 use Rattle.row_words.specs.Words.{scalar_in}
 use Rattle.dataset_reader.specs.Kept.{Kept}
-use Rattle.device_sides.specs.Readings.{HasFieldStatus, HasFieldValue, HasNoMisfit, HoldsNone, IsOfKind, IsOfOtherKind, IsUntoldAt, Keeps}
-use Rattle.device_sides.specs.declared.asked.NoValue.TheVariants.{NoField}
-use Rattle.device_sides.specs.declared.subscriber.Subscriber.{Subscriber}
+use Rattle.device.specs.Readings.{HasFieldStatus, HasFieldValue, HasNoMisfit, HoldsNone, IsOfKind, IsOfOtherKind, IsUntoldAt, Keeps}
+use Rattle.device.specs.declared.asked.NoValue.TheVariants.{NoField}
+use Rattle.device.specs.declared.subscriber.Subscriber.{Subscriber}
 use Rattle.uapubsub_c.specs.Answers.{Answered, Answers, IsLarge, OfSubscriber, Stays}
 use Rattle.uapubsub_c.specs.Numbers.{status_number}
 use Rattle.uapubsub_c.specs.declared.guid.GuidBytes.{GuidBytes}

@@ -3,9 +3,9 @@ use Rattle.std.specs.Prelude.{◌≡◌, ◌≢◌, ℕ, List, Ok, IsErr, Some, 
 use Rattle.std.specs.List.{AllZip}
 use Rattle.ps_config.specs.declared.parts.Config.{Config}
 use Rattle.ps_config.specs.Reading.{configuration}
-use Rattle.device_sides.specs.declared.publisher.Publisher.{Publisher as PublisherValue}
-use Rattle.device_sides.specs.declared.subscriber.Subscriber.{Subscriber as SubscriberValue}
-use Rattle.device_sides.specs.Sides.{AreOpeningListenings, AreOpeningSides, IsOpeningRow, IsOpeningSender, IsPublisher, IsSubscriber}
+use Rattle.device.specs.declared.publisher.Publisher.{Publisher as PublisherValue}
+use Rattle.device.specs.declared.subscriber.Subscriber.{Subscriber as SubscriberValue}
+use Rattle.device.specs.Sides.{AreOpeningListenings, AreOpeningSides, IsOpeningRow, IsOpeningSender, IsPublisher, IsSubscriber}
 use Rattle.uapubsub_c.specs.declared.handle.Handle.{Handle}
 use Rattle.uapubsub_c.specs.declared.kept.Kept.{Kept}
 use Rattle.uapubsub_c.specs.declared.kept.Kept.TheVariants.{Publisher, Subscriber}

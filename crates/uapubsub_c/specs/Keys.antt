@@ -4,12 +4,12 @@ use Rattle.group_keys.specs.Faults.{IsAccepted}
 use Rattle.group_keys.specs.KeySets.{encrypting_length}
 use Rattle.group_keys.specs.declared.key_set.KeySet.{KeySet}
 use Rattle.message_guard.specs.Protection.{keys_in}
-use Rattle.device_sides.specs.Readings.{HasKeysRenewed}
-use Rattle.device_sides.specs.Resuming as sides
-use Rattle.device_sides.specs.Resuming.{IsBehind, IsBehindConfigured, IsEarlier, MayNotResumeConfigured}
-use Rattle.device_sides.specs.Sides.{HasLongKeys, HasRenewed, ReadsLongKeys, ReadsNoKeys, StandsAt}
-use Rattle.device_sides.specs.declared.publisher.Publisher.{Publisher}
-use Rattle.device_sides.specs.declared.subscriber.Subscriber.{Subscriber}
+use Rattle.device.specs.Readings.{HasKeysRenewed}
+use Rattle.device.specs.Resuming as sides
+use Rattle.device.specs.Resuming.{IsBehind, IsBehindConfigured, IsEarlier, MayNotResumeConfigured}
+use Rattle.device.specs.Sides.{HasLongKeys, HasRenewed, ReadsLongKeys, ReadsNoKeys, StandsAt}
+use Rattle.device.specs.declared.publisher.Publisher.{Publisher}
+use Rattle.device.specs.declared.subscriber.Subscriber.{Subscriber}
 use Rattle.uapubsub_c.specs.Answers.{Answers, Does, IsLarge}
 use Rattle.uapubsub_c.specs.declared.keys.KeySetWords.{KeySetWords}
 use Rattle.uapubsub_c.specs.declared.keys.TheConstants.{MOST_SETS}

@@ -1,9 +1,9 @@
 -- What a call for the next datagram does.
 use Rattle.std.specs.Prelude.{◌≡◌, ℕ, ◌+◌, ◌<◌, [], List, length, slice_index_or, Result, Ok, Err}
 use Rattle.writer_group.specs.Standing.{datagrams_in}
-use Rattle.device_sides.specs.Coming.{ComesTo}
-use Rattle.device_sides.specs.declared.asked.Next.TheVariants as nexts
-use Rattle.device_sides.specs.declared.publisher.Publisher.{Publisher}
+use Rattle.device.specs.Coming.{ComesTo}
+use Rattle.device.specs.declared.asked.Next.TheVariants as nexts
+use Rattle.device.specs.declared.publisher.Publisher.{Publisher}
 use Rattle.uapubsub_c.specs.Laying.{IsLaidOut}
 use Rattle.uapubsub_c.specs.declared.status.Status.{Status}
 use Rattle.uapubsub_c.specs.declared.status.Status.TheVariants.{Nothing, Room, Spent}

@@ -15,8 +15,8 @@ use Rattle.reader_group.specs.declared.refusal.Refusal.TheVariants as refusals
 use Rattle.reader_group.specs.declared.refused.LastRefusal.{LastRefusal}
 use Rattle.reader_group.specs.declared.refused.Refused.{Refused}
 use Rattle.reader_group.specs.declared.refused.Sender.{Sender}
-use Rattle.device_sides.specs.Readings.{HasNumber, HasRefused, IsNoticeFor, IsReaderAt}
-use Rattle.device_sides.specs.declared.subscriber.Subscriber.{Subscriber}
+use Rattle.device.specs.Readings.{HasNumber, HasRefused, IsNoticeFor, IsReaderAt}
+use Rattle.device.specs.declared.subscriber.Subscriber.{Subscriber}
 use Rattle.uapubsub_c.specs.Answers.{Answers, Does}
 use Rattle.uapubsub_c.specs.Listing.{truth_number}
 use Rattle.uapubsub_c.specs.Numbers.{fault_number, refusal_number}

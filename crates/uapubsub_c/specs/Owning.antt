@@ -6,9 +6,9 @@ use Rattle.ua_binary.specs.Types.{kind_with}
 use Rattle.dataset_meta.specs.DataValues.{DataValue}
 use Rattle.row_words.specs.Setting.{HasStatus, HasValue}
 use Rattle.row_words.specs.Words.{scalar_in}
-use Rattle.device_sides.specs.Due.{IsCalm, IsDue, IsFirst, IsNever, IsSpentAt}
-use Rattle.device_sides.specs.Sides.{HasField, HasNoField, HasNoScalar, RowIs}
-use Rattle.device_sides.specs.declared.publisher.Publisher.{Publisher}
+use Rattle.device.specs.Due.{IsCalm, IsDue, IsFirst, IsNever, IsSpentAt}
+use Rattle.device.specs.Sides.{HasField, HasNoField, HasNoScalar, RowIs}
+use Rattle.device.specs.declared.publisher.Publisher.{Publisher}
 use Rattle.uapubsub_c.specs.Answers.{Answered, Answers, IsLarge, OfPublisher, Stays}
 use Rattle.uapubsub_c.specs.declared.handle.Handle.{Handle}
 use Rattle.uapubsub_c.specs.declared.status.Status.{Status}

@@ -3,9 +3,9 @@ use Rattle.std.specs.Prelude.{◌≡◌, ℕ, ◌≤◌, ◌⊎◌, Bool, List, 
 use Rattle.dataset_meta.specs.Metas.{MetaData}
 use Rattle.dataset_reader.specs.Kept.{Kept}
 use Rattle.reader_group.specs.declared.refusal.Taken.{Taken}
-use Rattle.device_sides.specs.Readings.{HaveExpired, IsNoReader, Keeps}
-use Rattle.device_sides.specs.Sides.{HasListened}
-use Rattle.device_sides.specs.declared.subscriber.Subscriber.{Subscriber}
+use Rattle.device.specs.Readings.{HaveExpired, IsNoReader, Keeps}
+use Rattle.device.specs.Sides.{HasListened}
+use Rattle.device.specs.declared.subscriber.Subscriber.{Subscriber}
 use Rattle.uapubsub_c.specs.Answers.{Answered, Answers, IsLarge, OfSubscriber, Stays}
 use Rattle.uapubsub_c.specs.Numbers.{status_number, why_number}
 use Rattle.uapubsub_c.specs.declared.handle.Handle.{Handle}

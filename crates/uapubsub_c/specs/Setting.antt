@@ -6,8 +6,8 @@ use Rattle.ua_values.specs.declared.value.Value.TheVariants.{ByteString, String}
 use Rattle.ua_values.specs.Blobs.{blob_of}
 use Rattle.ua_values.specs.Texts.{text_of}
 use Rattle.ua_binary.specs.Types.{kind_with}
-use Rattle.device_sides.specs.Sides.{HasField, HasNoField, HasSet, HasSetStatus, HasSetWord, IsMisfit, IsStatusMisfit, IsWordMisfit}
-use Rattle.device_sides.specs.declared.publisher.Publisher.{Publisher}
+use Rattle.device.specs.Sides.{HasField, HasNoField, HasSet, HasSetStatus, HasSetWord, IsMisfit, IsStatusMisfit, IsWordMisfit}
+use Rattle.device.specs.declared.publisher.Publisher.{Publisher}
 use Rattle.uapubsub_c.specs.Answers.{IsLarge}
 use Rattle.uapubsub_c.specs.declared.status.Status.{Status}
 use Rattle.uapubsub_c.specs.declared.status.Status.TheVariants.{BadText, Index, Misfit, NoKind}

@@ -1,9 +1,9 @@
 -- Writers and readers that C switches on and off.
 use Rattle.std.specs.Prelude.{ℕ, ◌⊎◌, Bool, Result}
-use Rattle.device_sides.specs.Readings.{HasReaderSwitched}
-use Rattle.device_sides.specs.Sides.{HasNoWriter, HasWriterSwitched}
-use Rattle.device_sides.specs.declared.publisher.Publisher.{Publisher}
-use Rattle.device_sides.specs.declared.subscriber.Subscriber.{Subscriber}
+use Rattle.device.specs.Readings.{HasReaderSwitched}
+use Rattle.device.specs.Sides.{HasNoWriter, HasWriterSwitched}
+use Rattle.device.specs.declared.publisher.Publisher.{Publisher}
+use Rattle.device.specs.declared.subscriber.Subscriber.{Subscriber}
 use Rattle.uapubsub_c.specs.Answers.{Does, IsLarge}
 use Rattle.uapubsub_c.specs.Reading.{IsAbsent}
 use Rattle.uapubsub_c.specs.declared.status.Status.{Status}

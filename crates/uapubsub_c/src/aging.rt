@@ -1,6 +1,6 @@
 //! How old the rows of readers are, and when a timeout is next.
 ghost use Rattle.std.specs.Prelude.{◌≡◌};
-ghost use Rattle.device_sides.specs.Sides.{IsSubscriber};
+ghost use Rattle.device.specs.Sides.{IsSubscriber};
 ghost use Rattle.uapubsub_c.specs.Aging.{TellsAge, TellsFresh, TellsTimeout};
 ghost use Rattle.uapubsub_c.specs.Answers.{Asks, Calls, OfSubscriber, Stays};
 ghost use Rattle.uapubsub_c.specs.Handles.{IsReady};
@@ -8,7 +8,7 @@ ghost use Rattle.uapubsub_c.specs.Handles.{IsReady};
 use crate::handle::Handle;
 use crate::indexes::two_indexes;
 use crate::status::{Status, number_of, tell};
-use device_sides::Subscriber;
+use device::Subscriber;
 use std::alloc::Global;
 
 /// How many milliseconds before `now` the row that a reader holds was confirmed: by the last message that it took with none missing

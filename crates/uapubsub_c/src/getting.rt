@@ -1,6 +1,6 @@
 //! Getting fields.
 ghost use Rattle.std.specs.Prelude.{◌≡◌};
-ghost use Rattle.device_sides.specs.Sides.{IsSubscriber};
+ghost use Rattle.device.specs.Sides.{IsSubscriber};
 ghost use Rattle.uapubsub_c.specs.Answers.{Asks, OfSubscriber, Stays};
 ghost use Rattle.uapubsub_c.specs.Getting.{GetsValue, SeesGuid, TellsStatus, TellsValue, TellsWord};
 ghost use Rattle.uapubsub_c.specs.Handles.{IsReady};
@@ -12,7 +12,7 @@ use crate::indexes::three_indexes;
 use crate::kinds::kind_numbered;
 use crate::laying::lay_whole;
 use crate::status::{Status, tell};
-use device_sides::{NoValue, Subscriber};
+use device::{NoValue, Subscriber};
 use std::alloc::Global;
 use ua_values::Value;
 

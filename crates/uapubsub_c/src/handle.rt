@@ -8,7 +8,7 @@ use crate::kept::Kept;
 use crate::loose::Loose;
 use crate::slot::Slot;
 use crate::status::Status;
-use device_sides::{Publisher, Subscriber};
+use device::{Publisher, Subscriber};
 use ps_config::Config;
 use std::alloc::Global;
 use std::mem::replace;

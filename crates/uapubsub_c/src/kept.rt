@@ -5,7 +5,7 @@ ghost use Rattle.uapubsub_c.specs.Answers.{AsksPublisher, AsksSubscriber, MovesP
 ghost use Rattle.uapubsub_c.specs.Handles.{IsSound, config_in};
 
 use crate::status::Status;
-use device_sides::{Publisher, Subscriber};
+use device::{Publisher, Subscriber};
 use ps_config::Config;
 
 /// One side of a device.

@@ -1,6 +1,6 @@
 //! What readers couldn't read or passed over, what read groups refused, and which NetworkMessages they take.
 ghost use Rattle.std.specs.Prelude.{◌≡◌};
-ghost use Rattle.device_sides.specs.Sides.{IsSubscriber};
+ghost use Rattle.device.specs.Sides.{IsSubscriber};
 ghost use Rattle.uapubsub_c.specs.Answers.{Asks, Calls, OfSubscriber, Stays};
 ghost use Rattle.uapubsub_c.specs.Handles.{IsReady};
 ghost use Rattle.uapubsub_c.specs.Noticing.{TakesOnly, TellsFault, TellsPassed, TellsRefused, fault_got, fault_of, fault_words, last_words, passed_words, refused_words, sender_in, token_in, type_in, word_in};
@@ -12,7 +12,7 @@ use crate::refusals::refusal_number;
 use crate::status::{Status, number_of, tell};
 use chunker::ChunkFault;
 use dataset_reader::Passed;
-use device_sides::Subscriber;
+use device::Subscriber;
 use frame_codec::FrameFault;
 use message_guard::OpenFault;
 use ps_config::Publisher;

@@ -1,6 +1,6 @@
 //! What a publisher has itself: its rows, its next moment, and its groups.
 ghost use Rattle.std.specs.Prelude.{◌≡◌};
-ghost use Rattle.device_sides.specs.Sides.{IsPublisher};
+ghost use Rattle.device.specs.Sides.{IsPublisher};
 ghost use Rattle.uapubsub_c.specs.Answers.{Asks, Calls, OfPublisher, Stays};
 ghost use Rattle.uapubsub_c.specs.Getting.{SeesGuid};
 ghost use Rattle.uapubsub_c.specs.Handles.{IsReady};
@@ -13,7 +13,7 @@ use crate::handle::Handle;
 use crate::indexes::{one_index, two_indexes};
 use crate::kinds::kind_numbered;
 use crate::status::{Status, number_of, tell};
-use device_sides::Publisher;
+use device::Publisher;
 use std::alloc::Global;
 use ua_values::Value;
 

@@ -1,6 +1,6 @@
 //! The publisher's calls, but those that set fields.
 ghost use Rattle.std.specs.Prelude.{◌≡◌, ◌≢◌, IfErr, IfOk};
-ghost use Rattle.device_sides.specs.Sides.{IsPublisher};
+ghost use Rattle.device.specs.Sides.{IsPublisher};
 ghost use Rattle.uapubsub_c.specs.Answers.{Asks, Calls, IsSeen, OfPublisher, Stays};
 ghost use Rattle.uapubsub_c.specs.Handles.{IsReady, IsSound};
 ghost use Rattle.uapubsub_c.specs.Keys.{IsSameStanding, Renews, Resumes, ResumesWith, TellsStanding};
@@ -14,7 +14,7 @@ use crate::kept::Kept;
 use crate::keys::{KeySetWords, ring_of_words};
 use crate::laying::lay;
 use crate::status::{Status, number_of};
-use device_sides::{Next, Publisher};
+use device::{Next, Publisher};
 use ps_config::ConfigEnd;
 use std::alloc::Global;
 

@@ -1,6 +1,6 @@
 //! Setting fields.
 ghost use Rattle.std.specs.Prelude.{◌≡◌};
-ghost use Rattle.device_sides.specs.Sides.{IsPublisher};
+ghost use Rattle.device.specs.Sides.{IsPublisher};
 ghost use Rattle.uapubsub_c.specs.Answers.{Calls, OfPublisher};
 ghost use Rattle.uapubsub_c.specs.Handles.{IsReady};
 ghost use Rattle.uapubsub_c.specs.Setting.{SetsBytes, SetsStatus, SetsText, SetsValue, SetsWord};
@@ -10,7 +10,7 @@ use crate::handle::Handle;
 use crate::indexes::two_indexes;
 use crate::kinds::kind_numbered;
 use crate::status::{Status, number_of};
-use device_sides::Publisher;
+use device::Publisher;
 use std::alloc::Global;
 use ua_values::{Blob, Text, Value};
 

@@ -1,7 +1,7 @@
 //! The subscriber's calls, but those that get fields.
 ghost use Rattle.std.specs.Prelude.{◌≡◌, ◌≢◌, ◌<◌, IfErr, IfNone, IfSome};
-ghost use Rattle.device_sides.specs.Readings.{IsReaderAt};
-ghost use Rattle.device_sides.specs.Sides.{IsSubscriber};
+ghost use Rattle.device.specs.Readings.{IsReaderAt};
+ghost use Rattle.device.specs.Sides.{IsSubscriber};
 ghost use Rattle.uapubsub_c.specs.Answers.{Asks, Calls, IsSeen, OfSubscriber, Stays};
 ghost use Rattle.uapubsub_c.specs.Handles.{IsReady, IsSound};
 ghost use Rattle.uapubsub_c.specs.Keys.{RenewsRead};
@@ -15,7 +15,7 @@ use crate::kept::Kept;
 use crate::keys::{KeySetWords, ring_of_words};
 use crate::status::{Status, number_of, tell};
 use dataset_reader::Reader;
-use device_sides::Subscriber;
+use device::Subscriber;
 use ps_config::ConfigEnd;
 use pubsub_model::Why;
 use reader_group::Taken;

@@ -1,6 +1,6 @@
 //! Writers and readers that are switched on and off.
 ghost use Rattle.std.specs.Prelude.{◌≡◌, true, false};
-ghost use Rattle.device_sides.specs.Sides.{IsPublisher, IsSubscriber};
+ghost use Rattle.device.specs.Sides.{IsPublisher, IsSubscriber};
 ghost use Rattle.uapubsub_c.specs.Answers.{Calls, OfPublisher, OfSubscriber};
 ghost use Rattle.uapubsub_c.specs.Handles.{IsReady};
 ghost use Rattle.uapubsub_c.specs.Switching.{SwitchesReader, SwitchesWriter};
@@ -8,7 +8,7 @@ ghost use Rattle.uapubsub_c.specs.Switching.{SwitchesReader, SwitchesWriter};
 use crate::handle::Handle;
 use crate::indexes::two_indexes;
 use crate::status::{Status, number_of};
-use device_sides::{Publisher, Subscriber};
+use device::{Publisher, Subscriber};
 use std::alloc::Global;
 
 /// The writer with this index in the group with this index sends from now on, a key frame first (OPC 10000-14 6.2.1, Enable).

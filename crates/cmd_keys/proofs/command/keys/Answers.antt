@@ -1,5 +1,5 @@
 use Rattle.std.proofs.Common.{List, ℕ, refl, subst, arith}
-use Rattle.commands.specs.Outputs.{EndsWriting}
+use Rattle.cmd_base.specs.Outputs.{EndsWriting}
 use Rattle.cmd_keys.proofs.Told.{ends_without, ends_written, said_late}
 use Rattle.cmd_keys.proofs.command.keys.Goals as goal
 

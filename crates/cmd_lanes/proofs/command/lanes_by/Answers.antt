@@ -1,5 +1,5 @@
 use Rattle.std.proofs.Common.{Err, refl, sym, ap}
-use Rattle.commands.proofs.Ends.{ends_as, ends_unplayed, over-wire}
+use Rattle.cmd_base.proofs.Ends.{ends_as, ends_unplayed, over-wire}
 use Rattle.cmd_lanes.proofs.command.lanes_by.Goals as goal
 
 pub returns-clause-ends : goal.returns-clause-ends

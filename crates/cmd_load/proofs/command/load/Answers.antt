@@ -1,6 +1,6 @@
 use Rattle.std.proofs.Common.{List, ℕ, refl, subst}
-use Rattle.commands.specs.Outputs.{EndsWriting}
-use Rattle.commands.proofs.Ended.{written_late}
+use Rattle.cmd_base.specs.Outputs.{EndsWriting}
+use Rattle.cmd_base.proofs.Ended.{written_late}
 use Rattle.cmd_load.proofs.Ends.{ends_written, ends_unplayed}
 use Rattle.cmd_load.proofs.command.load.Goals as goal
 

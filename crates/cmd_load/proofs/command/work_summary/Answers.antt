@@ -2,7 +2,7 @@ use Rattle.std.proofs.Common.{refl}
 use Rattle.ps_report.specs.declared.closed.Closed.{Closed}
 use Rattle.script_player.specs.Plays.{opening_of}
 use Rattle.script_player.proofs.Openings.{as-failed}
-use Rattle.commands.proofs.Ends.{over-wire, uses-wire}
+use Rattle.cmd_base.proofs.Ends.{over-wire, uses-wire}
 use Rattle.cmd_load.specs.Loads.{OpensForWork}
 use Rattle.cmd_load.proofs.Told.{opens_for, summarized}
 use Rattle.cmd_load.proofs.command.work_summary.Goals as goal

@@ -1,6 +1,6 @@
 use Rattle.std.proofs.Common.{List, ℕ, Err, refl, ap, subst}
-use Rattle.commands.specs.Outputs.{EndsWriting}
-use Rattle.commands.proofs.Ended.{written_late}
+use Rattle.cmd_base.specs.Outputs.{EndsWriting}
+use Rattle.cmd_base.proofs.Ended.{written_late}
 use Rattle.cmd_relay.proofs.Ending.{ends_unaccepted, ends_so, ends_written}
 use Rattle.cmd_relay.proofs.Writing.{writes-relay}
 use Rattle.cmd_relay.proofs.command.relay.Goals as goal

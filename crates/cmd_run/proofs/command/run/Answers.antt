@@ -1,7 +1,7 @@
 use Rattle.std.proofs.Common.{List, ℕ, Err, refl, ap, subst}
-use Rattle.commands.specs.Outputs.{EndsWriting}
-use Rattle.commands.proofs.Ended.{written_late}
-use Rattle.commands.proofs.Ends.{ends_as, ends_unplayed, ends_written, over-wire}
+use Rattle.cmd_base.specs.Outputs.{EndsWriting}
+use Rattle.cmd_base.proofs.Ended.{written_late}
+use Rattle.cmd_base.proofs.Ends.{ends_as, ends_unplayed, ends_written, over-wire}
 use Rattle.cmd_run.proofs.command.run.Goals as goal
 
 pub returns-in-Ok-ran-clause-ends : goal.returns-in-Ok-ran-clause-ends

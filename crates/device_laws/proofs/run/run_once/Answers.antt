@@ -1,8 +1,8 @@
 use Rattle.std.proofs.Common.{◌≡◌, subst, ◌∙◌, ℕ, List, refl}
-use Rattle.device_sides.specs.Coming.{ComesTo}
-use Rattle.device_sides.specs.Sides.{HasListened}
-use Rattle.device_sides.specs.declared.asked.Next.{Next}
-use Rattle.device_sides.specs.declared.asked.Next.TheVariants.{Datagram}
+use Rattle.device.specs.Coming.{ComesTo}
+use Rattle.device.specs.Sides.{HasListened}
+use Rattle.device.specs.declared.asked.Next.{Next}
+use Rattle.device.specs.declared.asked.Next.TheVariants.{Datagram}
 use Rattle.device_laws.proofs.run.run_once.Goals as goal
 use Rattle.device_laws.proofs.run.run_once.Goals.{in-Datagram, in_default}
 

@@ -2,7 +2,7 @@ use Rattle.std.proofs.Common.{◌≡◌, subst, sym}
 use Rattle.std.proofs.lemmas.Result.{IfOk-weaker}
 use Rattle.group_keys.specs.Ring.{is_long}
 use Rattle.group_keys.specs.declared.ring.Ring.{Ring}
-use Rattle.device_sides.specs.Sides.{FitsKeyGroup, HasLongKeys}
+use Rattle.device.specs.Sides.{FitsKeyGroup, HasLongKeys}
 use Rattle.example_rings.proofs.session.ring_for_sender.Goals as goal
 
 pub returns-in-Some : goal.returns-in-Some

@@ -1,6 +1,6 @@
 use Rattle.std.proofs.Common.{sym, ◌∙◌, subst}
-use Rattle.commands.specs.Outside.{outside_of, wire_of}
-use Rattle.commands.specs.Plays.{PlayEnds}
+use Rattle.cmd_base.specs.Outside.{outside_of, wire_of}
+use Rattle.cmd_base.specs.Plays.{PlayEnds}
 use Rattle.cmd_run.specs.Runs.{RunEnds}
 use Rattle.cmd_relay.specs.Ends.{RelayEnds, names_of}
 use Rattle.cmd_relay.proofs.Writing.{writes-relay}

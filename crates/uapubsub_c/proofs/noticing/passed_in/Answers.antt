@@ -1,6 +1,6 @@
 use Rattle.std.proofs.Common.{ℕ, ap, subst, ◌∙◌}
 use Rattle.dataset_reader.specs.declared.passed.Passed.{Passed}
-use Rattle.device_sides.specs.Readings.{IsNoticeFor, IsReaderAt}
+use Rattle.device.specs.Readings.{IsNoticeFor, IsReaderAt}
 use Rattle.uapubsub_c.specs.Noticing.{passed_words}
 use Rattle.uapubsub_c.proofs.noticing.passed_in.Goals as goal
 

@@ -1,5 +1,5 @@
 use Rattle.std.proofs.Common.{ℕ, subst}
-use Rattle.device_sides.specs.Resuming.{IsBehindConfigured}
+use Rattle.device.specs.Resuming.{IsBehindConfigured}
 use Rattle.uapubsub_c.proofs.publishing.resume.Goals as goal
 
 pub returns-then-resume-clause-resumes : goal.returns-then-resume-clause-resumes

@@ -1,5 +1,5 @@
 use Rattle.std.proofs.Common.{ℕ, inr, refl, subst}
-use Rattle.device_sides.specs.Sides.{ReadsNoKeys}
+use Rattle.device.specs.Sides.{ReadsNoKeys}
 use Rattle.uapubsub_c.proofs.subscribing.renew.Goals as goal
 
 pub returns-in_default-has_long_keys-clause-renews : goal.returns-in_default-has_long_keys-clause-renews

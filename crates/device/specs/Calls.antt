@@ -1,0 +1,71 @@
+-- The calls of a publisher, one after another, and what they make of its senders.
+use Rattle.std.specs.Prelude.{◌≡◌, ◌≢◌, ℕ, ◌+◌, ◌<◌, ◌≤◌, List, [], ◌∷◌, length, Some}
+use Rattle.std.specs.List.{AllZip, HoldsAt}
+use Rattle.group_keys.specs.declared.key_set.KeySet.{KeySet}
+use Rattle.message_guard.specs.Senders.{SenderState, turned}
+use Rattle.writer_group.specs.Parts.{group_at}
+use Rattle.device.specs.declared.asked.Next.{Next}
+use Rattle.device.specs.declared.asked.Next.TheVariants.{Datagram}
+use Rattle.device.specs.declared.publisher.Publisher.{Publisher}
+use Rattle.device.specs.Coming.{ComesTo, HasCome}
+use Rattle.device.specs.Resuming.{IsBehind}
+use Rattle.device.specs.Sides.{HasRenewed, IsNoLess}
+
+-- it comes to a moment, a key group is renewed, or goes on behind so many numbers; or all senders stay
+pub data Call : Type 0 where
+  Came : (now : ℕ) (next : Next) → Call
+  Renewed : (keygroup : ℕ) (sets : List KeySet) → Call
+  Resumed : (keygroup now used : ℕ) (sets : List KeySet) → Call
+  Other : Call
+
+abbrev pub IsCalled : Call → Publisher → Publisher → Type 0
+IsCalled (Came now next) old new = ComesTo now next old new
+IsCalled (Renewed keygroup sets) old new = HasRenewed keygroup sets old new
+IsCalled (Resumed keygroup now used sets) old new = IsBehind keygroup now used sets old new
+IsCalled Other old new = new.senders.items ≡ old.senders.items
+
+-- the first first
+abbrev pub AreCalled : List Call → Publisher → Publisher → Type 0
+AreCalled [] old new = new ≡ old
+AreCalled (call ∷ calls) old new = (mid : Publisher) × (IsCalled call old mid × AreCalled calls mid new)
+
+-- no sender's standing is lower than it was
+abbrev pub FallBackNever : List SenderState → List SenderState → Type 0
+FallBackNever old new = AllZip IsNoLess old new
+
+-- ---- numbers that are given
+
+-- as the sender turned to the moment and went on, a datagram took this token and number: the number follows those that were used, and is used then
+pub record IsGiven (now : ℕ) (pair : ℕ × ℕ) (was is : SenderState) : Type 0 where
+  pub turned_token : pair.0 ≡ (turned was now).keys.token
+  pub token : pair.0 ≡ is.keys.token
+  pub follows : (turned was now).used < pair.1
+  pub used : pair.1 ≤ is.used
+
+-- the call gave it to a datagram of the key group: none but that which comes to a moment gives any
+abbrev pub Gives : ℕ → Call → Publisher → Publisher → ℕ × ℕ → Type 0
+Gives keygroup (Came now next) old new pair = HoldsAt (λ was. HoldsAt (IsGiven now pair was) new.senders.items keygroup) old.senders.items keygroup
+Gives keygroup (Renewed other sets) old new pair = ⊥
+Gives keygroup (Resumed other now used sets) old new pair = ⊥
+Gives keygroup Other old new pair = ⊥
+
+-- two calls, the second behind these others, give a key group's datagrams no token and number in common
+abbrev pub GiveOthers : ℕ → Call → List Call → Call → Type 0
+GiveOthers keygroup first calls last =
+    (one two three four : Publisher) (pair other : ℕ × ℕ) → Gives keygroup first one two pair → AreCalled calls two three → Gives keygroup last three four other → pair ≢ other
+
+-- ---- the numbers of a turn
+
+-- the group whose datagrams wait is secured with the keys of this key group
+abbrev pub IsFromGroupOf : ℕ → Publisher → Type 0
+IsFromGroupOf keygroup publisher = (group_at publisher.config publisher.from).keygroup ≡ Some keygroup
+
+-- the token, and the number of the datagram at this place among those of a turn, by its sender before it turned to the moment
+abbrev pub number_at : ℕ → ℕ → SenderState → ℕ × ℕ
+number_at now place was = ((turned was now).keys.token, (turned was now).used + place + 1)
+
+-- each datagram that was made as the publisher came to the moment took a number of its own, in their order
+abbrev pub GivesEach : ℕ → ℕ → Publisher → Publisher → Type 0
+GivesEach keygroup now old new =
+    HasCome now Datagram old new → keygroup < length old.senders.items → IsFromGroupOf keygroup new → (place : ℕ) → place < new.made
+    → HoldsAt (λ was. Gives keygroup (Came now Datagram) old new (number_at now place was)) old.senders.items keygroup

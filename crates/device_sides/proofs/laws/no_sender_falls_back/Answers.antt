@@ -1,5 +1,0 @@
-use Rattle.device_sides.proofs.Rising.{never-falls}
-use Rattle.device_sides.proofs.laws.no_sender_falls_back.Goals as goal
-
-pub returns : goal.returns
-returns c = never-falls

@@ -1,7 +1,0 @@
-use Rattle.std.proofs.Common.{ℕ, ◌<◌}
-use Rattle.device_sides.specs.Due.{HasTimeout, IsInTime, TellsFirst}
-use Rattle.device_sides.proofs.listening.Listening.due.Given as goal
-
-abbrev pub invariant-loop-reader : goal.invariant-loop-reader
-invariant-loop-reader l =
-    TellsFirst l.now (λ t. (reader : ℕ) → reader < l.reader → IsInTime t reader l.self.group) (λ t. HasTimeout t l.self) l.first

@@ -1,6 +1,0 @@
-use Rattle.rows_group.specs.Kept.{AreTurners}
-use Rattle.rows_group.proofs.groups.grown_turners.Given as goal
-
--- those that are done, and those that are left
-abbrev pub invariant-loop-turner : goal.invariant-loop-turner
-invariant-loop-turner l = AreTurners l.config l.new l.done.items × AreTurners l.config l.old l.turner-iterator.rest.items

@@ -1,5 +1,0 @@
-use Rattle.rows_group.specs.Kept.{IsTurner}
-use Rattle.rows_group.proofs.turners.Turner.refresh_all.Given as goal
-
-abbrev pub invariant-loop-index : goal.invariant-loop-index
-invariant-loop-index l = IsTurner l.config l.metas l.self

@@ -1,7 +1,0 @@
-use Rattle.std.proofs.Common.{IsSome}
-use Rattle.mem_edge.specs.MemoryLinks.{opened_by}
-use Rattle.rows_link.proofs.row.Row.play.Given as goal
-
--- the link is open
-abbrev pub invariant-loop-step : goal.invariant-loop-step
-invariant-loop-step l = IsSome (opened_by l.link)
