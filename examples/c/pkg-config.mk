@@ -4,7 +4,7 @@
 # make -f examples/c/pkg-config.mk LINKS=static       with libuapubsub.a
 HERE := $(dir $(lastword $(MAKEFILE_LIST)))
 CFLAGS = -std=c11 -O2 -Wall -Wextra -Wpedantic
-CXXFLAGS = -std=c++17 -O2 -Wall -Wextra -Wpedantic
+CXXFLAGS = -std=c++20 -O2 -Wall -Wextra -Wpedantic
 PKG_CONFIG = pkg-config
 LINKS = shared
 HEADER := $(shell $(PKG_CONFIG) --cflags uapubsub)
