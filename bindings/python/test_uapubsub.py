@@ -127,7 +127,10 @@ class Sides(OverSides):
             self.assertEqual(subscriber.why("readers", "reader"), u.Why.START)
             publisher["all"].update(row)
             publisher["all"].set_status("boolean", 0x40000000)
+            self.assertEqual(publisher["all"].row(), row)
+            self.assertEqual([publisher["all"].status(it) for it in ("boolean", "sbyte", 0)], [0x40000000, 0, 0x40000000])
             for datagram in publisher.datagrams(100):
+                self.assertEqual(publisher.group(), "group")
                 self.assertEqual([(it.parts, it.matched, it.bad) for it in subscriber.take(datagram, 100)], [(1, 1, 0)])
             self.assertEqual(subscriber.row("readers", "reader"), row)
             self.assertEqual([subscriber.status("readers", "reader", it) for it in ("boolean", "sbyte", 0)], [0x40000000, 0, 0x40000000])
@@ -153,7 +156,7 @@ class Sides(OverSides):
 
     def test_what_isnt_there(self):
         publisher, subscriber = self.opened()
-        wrong = [lambda: publisher["other"], lambda: publisher[1], lambda: publisher["all"].set_status("other", 0), lambda: publisher.standing("other"),
+        wrong = [lambda: publisher["other"], lambda: publisher[1], lambda: publisher["all"]["other"], lambda: publisher["all"].status("other"), lambda: publisher["all"].set_status("other", 0), lambda: publisher.standing("other"),
                  lambda: publisher.enable("group", "other"), lambda: publisher.disable("other", 0), lambda: subscriber.row("readers", 1),
                  lambda: subscriber.status(0, 0, 16), lambda: subscriber.renew(1, []), lambda: publisher["all"].__setitem__("other", 1)]
         for call in wrong:

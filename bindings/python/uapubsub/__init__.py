@@ -90,6 +90,19 @@ class _Side:
         at = self._table(self._groups, group)
         return at, _index(self._tables[self._groups][at].get(self._member, []), member, self._member)
 
+    def _value(self, calls: str, kind: str, *places: int) -> Any:
+        """A field by the calls whose names begin so, or None where there is no row."""
+        if kind in _SCALARS:
+            number, form = _SCALARS[kind]
+            word = c_uint64()
+            return None if self._call(f"{calls}_word", *places, number, byref(word)) else struct.unpack_from(form, word.value.to_bytes(8, "little"))[0]
+        buffer, length = ctypes.create_string_buffer(MOST_TEXT_BYTES), c_size_t()
+        if kind == "Guid":
+            return None if self._call(f"{calls}_guid", *places, buffer) else uuid.UUID(bytes_le=buffer.raw[:16])
+        if self._call(f"{calls}_text" if kind == "String" else f"{calls}_bytes", *places, buffer, MOST_TEXT_BYTES, byref(length)):
+            return None
+        return buffer.raw[: length.value].decode() if kind == "String" else buffer.raw[: length.value]
+
     def _kinds(self, dataset: str) -> dict[str, str]:
         """The kind of each field of a data set, by its name."""
         return {it["name"]: it["kind"] for it in self._tables["dataset"][self._table("dataset", dataset)]["field"]}
@@ -130,6 +143,12 @@ class Publisher(_Side):
         buffer, length = ctypes.create_string_buffer(MOST_DATAGRAM_BYTES), c_size_t()
         while self._call("publisher_next", now_ms, buffer, MOST_DATAGRAM_BYTES, byref(length)) == Status.OK:
             yield ctypes.string_at(buffer, length.value)
+
+    def group(self) -> str:
+        """The name of the group whose datagram `datagrams` gave last."""
+        group = c_uint32()
+        self._call("publisher_group", byref(group))
+        return self._tables["group"][group.value]["name"]
 
     def may_turn(self, group: str | int) -> bool:
         """Whether the group may have a turn: its token has numbers left, and its life turns."""
@@ -181,6 +200,21 @@ class DataSet:
         else:
             call("set_text" if kind == "String" else "set_bytes", self._at, at, _encoded(value), len(_encoded(value)))
 
+    def __getitem__(self, field: str | int) -> Any:
+        """The value that was set last."""
+        at = self._field(field)
+        return self._publisher._value("own", self._fields[at][1], self._at, at)
+
+    def row(self) -> dict[str, Any]:
+        """All values that were set last, by their fields' names."""
+        return {name: self[name] for name, _ in self._fields}
+
+    def status(self, field: str | int) -> int:
+        """A field's StatusCode as it was set last, 0 being Good."""
+        status = c_uint32()
+        self._publisher._call("own_field_status", self._at, self._field(field), byref(status))
+        return status.value
+
     def set_status(self, field: str | int, status: int) -> None:
         """Sets a field's StatusCode, 0 being Good, where the data set has quality."""
         self._publisher._call("set_field_status", self._at, self._field(field), status)
@@ -222,7 +256,7 @@ class Subscriber(_Side):
         """The row that the reader holds, by its fields' names."""
         places = self._places(group, reader)
         kinds = self._kinds_of(*places)
-        values = [self._value(kind, *places, at) for at, kind in enumerate(kinds.values())]
+        values = [self._value("get", kind, *places, at) for at, kind in enumerate(kinds.values())]
         return None if None in values else dict(zip(kinds, values))
 
     def status(self, group: str | int, reader: str | int, field: str | int) -> int | None:
@@ -282,16 +316,3 @@ class Subscriber(_Side):
 
     def _kinds_of(self, group: int, reader: int) -> dict[str, str]:
         return self._kinds(self._tables["readgroup"][group]["reader"][reader]["dataset"])
-
-    def _value(self, kind: str, *places: int) -> Any:
-        """A field of the row that is held, or None."""
-        if kind in _SCALARS:
-            number, form = _SCALARS[kind]
-            word = c_uint64()
-            return None if self._call("get_word", *places, number, byref(word)) else struct.unpack_from(form, word.value.to_bytes(8, "little"))[0]
-        buffer, length = ctypes.create_string_buffer(MOST_TEXT_BYTES), c_size_t()
-        if kind == "Guid":
-            return None if self._call("get_guid", *places, buffer) else uuid.UUID(bytes_le=buffer.raw[:16])
-        if self._call("get_text" if kind == "String" else "get_bytes", *places, buffer, MOST_TEXT_BYTES, byref(length)):
-            return None
-        return buffer.raw[: length.value].decode() if kind == "String" else buffer.raw[: length.value]

@@ -59,7 +59,13 @@ close                  handle
 publisher_open         handle bytes size
 publisher_next         handle u64 room size size*
 publisher_due          handle u64 u64*
+publisher_group        handle u32*
 group_may_turn         handle u32
+own_word               handle u32 u32 u32 u64*
+own_text               handle u32 u32 room size size*
+own_bytes              handle u32 u32 room size size*
+own_guid               handle u32 u32 room
+own_field_status       handle u32 u32 u32*
 publisher_standing     handle u32 u32* u32*
 publisher_resume       handle u32 u64 u32
 publisher_resume_with  handle u32 u64 u32 u32 sets size
