@@ -125,6 +125,7 @@ class Sides(OverSides):
             self.assertIsNone(subscriber.row("readers", "reader"))
             self.assertIsNone(subscriber.number("readers", "reader"))
             self.assertEqual(subscriber.why("readers", "reader"), u.Why.START)
+            self.assertIsNone(publisher.group())
             publisher["all"].update(row)
             publisher["all"].set_status("boolean", 0x40000000)
             self.assertEqual(publisher["all"].row(), row)

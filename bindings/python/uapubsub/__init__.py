@@ -144,11 +144,10 @@ class Publisher(_Side):
         while self._call("publisher_next", now_ms, buffer, MOST_DATAGRAM_BYTES, byref(length)) == Status.OK:
             yield ctypes.string_at(buffer, length.value)
 
-    def group(self) -> str:
+    def group(self) -> str | None:
         """The name of the group whose datagram `datagrams` gave last."""
         group = c_uint32()
-        self._call("publisher_group", byref(group))
-        return self._tables["group"][group.value]["name"]
+        return None if self._call("publisher_group", byref(group)) else self._tables["group"][group.value]["name"]
 
     def may_turn(self, group: str | int) -> bool:
         """Whether the group may have a turn: its token has numbers left, and its life turns."""
