@@ -1,4 +1,4 @@
-//! Datagrams that a read group takes, one behind another.
+//! Datagrams that a read group takes, one after another.
 ghost use Rattle.std.specs.Prelude.{◌<◌, length};
 ghost use Rattle.bench_groups.specs.Taking.{MayTake};
 

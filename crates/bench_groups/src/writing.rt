@@ -29,7 +29,7 @@ struct Run {
 
 /// `turns` turns of the configuration's first group, and one more, the first of them with key frames. All writers are on, and where
 /// `changes` isn't 0 the middle field of each data set, of the kind UInt32, changes at each turn. The datagrams of the last turn are
-/// laid one behind another into `last`, as far as it has room. Answers how many datagrams all turns made; 0 where nothing is
+/// laid one after another into `last`, as far as it has room. Answers how many datagrams all turns made; 0 where nothing is
 /// measured.
 #[unsafe(no_mangle)]
 pub extern "C" fn bench_turns(
@@ -100,7 +100,7 @@ impl Run {
     ghost use Rattle.writer_group.specs.Standing.{datagrams_in};
     ghost use Rattle.bench_groups.specs.Running.{MayTurn};
 
-    /// So many turns, one behind another. Tells how many datagrams they made.
+    /// So many turns, one after another. Tells how many datagrams they made.
     fn take(&mut self, config: &Config, turns: u32) -> Result<u64, Unmeasured>
         requires { MayTurn config.now (turns + 1) self.old }
         ensures { OnOk result (MayTurn config.now 1 self.new) }
@@ -148,7 +148,7 @@ fn rows_at<'a>(even: &'a [Sampled], odd: &'a [Sampled], index: u32) -> &'a [Samp
     if index % 2 == 0 { even } else { odd }
 }
 
-/// Lays the datagrams of the last turn one behind another, as far as there is room.
+/// Lays the datagrams of the last turn one after another, as far as there is room.
 fn lay(out: &Datagrams, count: u32, bytes: &mut [u8])
     requires reserved { IsReserved out.now }
     requires count { count ≤ length (datagrams_in out.now) }

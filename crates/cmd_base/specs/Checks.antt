@@ -19,7 +19,7 @@ AcceptsConfig file = (config : Config) × IsJudged file (Ok config)
 abbrev pub ok_text : List ℕ
 ok_text = codes "ok" ++ line_feed
 
--- What each status says. file: what the folder tells of the file of this name; old, new: what the output tells before and behind
+-- What each status says. file: what the folder tells of the file of this name; old, new: what the output tells before and after
 abbrev pub Checks : Status → List ℕ → ToldFile → Option (List ℕ) → Option (List ℕ) → Type 0
 Checks Done name file old new = AcceptsConfig file × (new ≡ appended old ok_text)
 Checks Unwritten name file old new = AcceptsConfig file × AppendsPrefix old new ok_text
@@ -29,7 +29,7 @@ Checks (Unread unread) name file old new = unread.now ≡ name
 Checks OutOfMemory name file old new = ⊤
 Checks _ name file old new = ⊥
 
--- How the command ends on the file of this name. old, new: what the folder and the output tell before and behind
+-- How the command ends on the file of this name. old, new: what the folder and the output tell before and after
 pub record CheckEnds (status : Status) (name : List ℕ) (old new : Outside) : Type 0 where
   pub checks : Checks status name (old.file name) old.written new.written
   -- the configuration is refused exactly where it is one that the definition refuses, and where it is accepted and no call fails, this is said

@@ -12,7 +12,7 @@ use Rattle.cmd_base.specs.Statuses.{IsConfigRefused, IsScriptRefused, IsUnread, 
 abbrev pub IsOpenedOnce : Type 0 → Wire → Wire → Type 0
 IsOpenedOnce performed before after = OpensOnce (λ (w : Wire). w.made) (λ (w : Wire). w.openings) performed before after
 
--- a link that tells, and has the patience for what a session's pumps are answered, tells behind it too
+-- a link that tells, and has the patience for what a session's pumps are answered, tells after it too
 abbrev pub TellsToTheEnd : Wire → Wire → Type 0
 TellsToTheEnd before after = TellsOn (λ (w : Wire). w.told) (λ (w : Wire). w.patience) session_nothings before after
 

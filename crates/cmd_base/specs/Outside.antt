@@ -1,4 +1,4 @@
--- What the outside of a command tells, before it or behind it.
+-- What the outside of a command tells, before it or after it.
 use Rattle.std.specs.Prelude.{◌≡◌, ◌≤◌, ℕ, List, Option}
 use Rattle.ua_base.specs.Cause.{Rose}
 use Rattle.ua_base.specs.Files.{ToldFile}

@@ -27,7 +27,7 @@ use Rattle.cmd_base.specs.Links.{IsQuietOrOpened, UsesLink}
 
 -- ---- what is taken, and what is written of it
 
--- what the text is, of the configuration, the script and what the link tells behind it
+-- what the text is, of the configuration, the script and what the link tells after it
 abbrev pub Text : Type 1
 Text = Config → Script → Option LinkState → List ℕ → Type 0
 
@@ -39,7 +39,7 @@ Refusal = Script → Option ℕ
 abbrev pub takes_all : Refusal
 takes_all script = None
 
--- what a closed session is of the configuration, the script and what the link tells behind it
+-- what a closed session is of the configuration, the script and what the link tells after it
 abbrev pub Performance : Type 1
 Performance = Config → Script → Option LinkState → Closed → Type 0
 
@@ -64,7 +64,7 @@ pub record Writes (IsText : Text) (refusal : Refusal) (fates : Bool) (tells : Li
 
 -- ---- what each status says
 
--- the file of this name was read, or was to be: the configuration's, or, behind a configuration that was accepted, the script's
+-- the file of this name was read, or was to be: the configuration's, or, after a configuration that was accepted, the script's
 abbrev pub Reads : (List ℕ → ToldFile) → List ℕ → Option (List ℕ) → List ℕ → Type 0
 Reads tells script_name config_name name =
     (config_name ≡ Some name) ⊎ ((name ≡ script_name) × (config : Config) × IsConfigured tells config_name config)
@@ -100,7 +100,7 @@ EndsBefore refusal fates tells script_name config_name (NotInLanes line) = Refus
 EndsBefore refusal fates tells script_name config_name Unopened = Takes refusal fates tells script_name config_name
 EndsBefore refusal fates tells script_name config_name status = EndsAccepting fates tells script_name config_name status
 
--- old, new: what the folder and the output tell before and behind; after: what the link tells behind
+-- old, new: what the folder and the output tell before and after; after: what the link tells after
 abbrev pub Says : Text → Refusal → Bool → Status → List ℕ → Option (List ℕ) → Outside → Outside → Wire → Type 0
 Says IsText refusal fates Done script_name config_name old new after =
     (text : List ℕ) × Writes IsText refusal fates old.file script_name config_name after text × (new.written ≡ appended old.written text)
@@ -138,7 +138,7 @@ abbrev pub NamesLong : Status → List ℕ → Type 0
 NamesLong (Long file) name = file.now ≡ name
 NamesLong _ name = ⊥
 
--- How the command ends on the files of these names. old, new: what the folder and the output tell before and behind; before, after: what the link tells
+-- How the command ends on the files of these names. old, new: what the folder and the output tell before and after; before, after: what the link tells
 pub record SessionEnds (IsText : Text) (refusal : Refusal) (fates : Bool) (status : Status) (script_name : List ℕ) (config_name : Option (List ℕ)) (old new : Outside) (before after : Wire) : Type 0 where
   pub says : Says IsText refusal fates status script_name config_name old new after
   pub link : UsesLink (OpensFor refusal fates old.file script_name config_name) (IsUnopened status) (IsPerformed status) before after

@@ -39,7 +39,7 @@ pub record IsJsonOf (config : Config) (script : Script) (told : Option LinkState
   pub records : All (HasRecords config parts) (json_readers config)
   pub text_is : text ≡ json_text config lines parts skipped
 
--- How the command ends, with the text of a played session, whose fates the link obeys. old, new: what the folder and the output tell before and behind; before,
+-- How the command ends, with the text of a played session, whose fates the link obeys. old, new: what the folder and the output tell before and after; before,
 -- after: what the link tells
 abbrev pub JsonEnds : Status → List ℕ → Option (List ℕ) → Outside → Outside → Wire → Wire → Type 0
 JsonEnds status script_name config_name old new before after =

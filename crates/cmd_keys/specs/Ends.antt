@@ -37,13 +37,13 @@ pub record TellsKeys (file : ToldFile) (asked : Asked) (text : List ℕ) : Type 
   pub exchange : TellsExchange config asked text
   pub answer : TellsAnswer config asked text
 
--- What each status says. file: what the folder tells of the file of this name; old, new: what the output tells before and behind
+-- What each status says. file: what the folder tells of the file of this name; old, new: what the output tells before and after
 abbrev pub Says : Status → List ℕ → Asked → ToldFile → Option (List ℕ) → Option (List ℕ) → Type 0
 Says Done name asked file old new = (text : List ℕ) × TellsKeys file asked text × (new ≡ appended old text)
 Says Unwritten name asked file old new = (text : List ℕ) × TellsKeys file asked text × AppendsPrefix old new text
 Says status name asked file old new = EndsConfigFile file name status
 
--- How the command ends on the file of this name. old, new: what the folder and the output tell before and behind
+-- How the command ends on the file of this name. old, new: what the folder and the output tell before and after
 pub record KeysEnds (status : Status) (name : List ℕ) (asked : Asked) (old new : Outside) : Type 0 where
   pub says : Says status name asked (old.file name) old.written new.written
   -- the configuration is refused exactly where it is one that the definition refuses, and of one that is accepted, where no call fails, the answer is told

@@ -23,7 +23,7 @@ use Rattle.cmd_lanes.specs.Scripts.{ticks_by, ticks_of}
 abbrev pub HaveRows : List MetaData → List TurnIn → Type 0
 HaveRows metas turns = All (λ turn. AreRowsOf metas turn.rows.items) turns
 
--- behind these lines, the latest first: the exact sample of their writes, and the turns of their ticks
+-- after these lines, the latest first: the exact sample of their writes, and the turns of their ticks
 pub record IsCourse (metas : List MetaData) (lines : List Line) (course : Course) : Type 0 where
   pub moment : course.now ≡ moment_of (ticks_by metas lines)
   pub rows : course.rows.items ≡ samples_after metas lines

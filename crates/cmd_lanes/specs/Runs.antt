@@ -29,7 +29,7 @@ pub record IsLanesOf (config : Config) (script : Script) (told : Option LinkStat
   pub text_is : text ≡ lanes_text config counts (λ g w. log_at (plan_by config script) g w (ticks_of script))
   pub numbers : HaveNumbers config counts (λ g w. log_at (plan_by config script) g w (ticks_of script))
 
--- How the command ends: with what lanes make of the script, which may give fates. old, new: what the folder and the output tell before and behind; before,
+-- How the command ends: with what lanes make of the script, which may give fates. old, new: what the folder and the output tell before and after; before,
 -- after: what the link tells
 abbrev pub LanesEnds : Status → List ℕ → Option (List ℕ) → Outside → Outside → Wire → Wire → Type 0
 LanesEnds status script_name config_name old new before after =

@@ -58,7 +58,7 @@ pub record Summarizes (n : ℕ) (after : Wire) (text : List ℕ) : Type 0 where
 
 -- ---- what each status says
 
--- old, new: what the output tells before and behind; after: what the link tells behind
+-- old, new: what the output tells before and after; after: what the link tells after
 abbrev pub Loads : Status → ℕ → Output → Output → Wire → Type 0
 Loads Done n old new after = (text : List ℕ) × Summarizes n after text × (new.written ≡ appended old.written text)
 Loads Unwritten n old new after = (text : List ℕ) × Summarizes n after text × AppendsPrefix old.written new.written text
@@ -66,7 +66,7 @@ Loads OutOfMemory n old new after = ⊤
 Loads Unopened n old new after = ⊤
 Loads _ n old new after = ⊥
 
--- How the command ends. old, new: what the output tells before and behind; before, after: what the link tells
+-- How the command ends. old, new: what the output tells before and after; before, after: what the link tells
 pub record LoadEnds (status : Status) (n : ℕ) (old new : Output) (before after : Wire) : Type 0 where
   pub says : Loads status n old new after
   pub link : UsesLink (OpensForWork n) (IsUnopened status) (IsPerformed status) before after

@@ -79,7 +79,7 @@ abbrev pub EndsSecond : ToldFile → Config → List ℕ → Status → Type 0
 EndsSecond file first name (NoSource set) = (second : Config) × IsJudged file (Ok second) × IsUnsourced first second set
 EndsSecond file first name status = EndsConfigFile file name status
 
--- the file of this name was read, or was to be: the first configuration's, behind it the second's, and behind both the script's
+-- the file of this name was read, or was to be: the first configuration's, after it the second's, and after both the script's
 abbrev pub Reads : (List ℕ → ToldFile) → Names → List ℕ → Type 0
 Reads tells names name =
     (name ≡ names.first)
@@ -105,7 +105,7 @@ abbrev pub EndsBefore : (List ℕ → ToldFile) → Names → Status → Type 0
 EndsBefore tells names Unopened = (accepted : Accepted) × Accepts tells names accepted
 EndsBefore tells names status = EndsAccepting tells names status
 
--- old, new: what the folder and the output tell before and behind; lab, wire: what the links tell behind
+-- old, new: what the folder and the output tell before and after; lab, wire: what the links tell after
 abbrev pub Says : Status → Names → Outside → Outside → Wire → Wire → Type 0
 Says Done names old new lab wire = (text : List ℕ) × Writes old.file names lab wire text × (new.written ≡ appended old.written text)
 Says Unwritten names old new lab wire = (text : List ℕ) × Writes old.file names lab wire text × AppendsPrefix old.written new.written text
@@ -156,7 +156,7 @@ AreRefused first_bytes second_bytes =
     IsErr (configuration first_bytes) ⊎ IsErr (configuration second_bytes)
     ⊎ ((first second : Config) × (configuration first_bytes ≡ Ok first) × (configuration second_bytes ≡ Ok second) × (AreSourced first second → ⊥))
 
--- How the command ends on the files of these names. old, new: what the folder and the output tell before and behind; lab, wire: what the links tell before, and behind
+-- How the command ends on the files of these names. old, new: what the folder and the output tell before and after; lab, wire: what the links tell before, and after
 pub record RelayEnds (status : Status) (names : Names) (old new : Outside) (lab lab_after wire wire_after : Wire) : Type 0 where
   pub says : Says status names old new lab_after wire_after
   pub links : UsesLinks old.file names status lab lab_after wire wire_after

@@ -26,7 +26,7 @@ abbrev pub LeavesUnopened : Wire → Wire → Wire → Wire → Type 0
 LeavesUnopened lab lab_after wire wire_after =
     (StaysClosed lab lab_after × (wire_after ≡ wire)) ⊎ StaysClosed wire wire_after
 
--- One link before and after calls that open it so, once or not at all, and keep it behind that, of which so many at most answered Nothing.
+-- One link before and after calls that open it so, once or not at all, and keep it after that, of which so many at most answered Nothing.
 -- Where all was done it was opened. What it was made to do stays, it tells on, and its count of faults doesn't fall.
 pub record OpensOne (opening : Opening) (done : Type 0) (nothings : ℕ) (before after : Wire) : Type 0 where
   pub opened : done → after.opened_with ≡ Some opening
@@ -35,7 +35,7 @@ pub record OpensOne (opening : Opening) (done : Type 0) (nothings : ℕ) (before
   pub lasts : TellsOn (λ (w : Wire). w.told) (λ (w : Wire). w.patience) nothings before after
   pub counts : before.faults ≤ after.faults
 
--- Two links before and after calls that open `lab` so and then `wire` so, each once or not at all, and keep them behind that, of which so many at
+-- Two links before and after calls that open `lab` so and then `wire` so, each once or not at all, and keep them after that, of which so many at
 -- most answered Nothing over each. Where all was done both were opened; one that can't be opened stays closed, and `wire` unused if that is `lab`.
 pub record OpensBoth (first second : Opening) (done refused : Type 0) (nothings : ℕ) (lab lab_after wire wire_after : Wire) : Type 0 where
   pub lab_opens : OpensOne first done nothings lab lab_after

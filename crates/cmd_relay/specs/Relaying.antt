@@ -37,7 +37,7 @@ use Rattle.cmd_relay.specs.Texts.{IsTextOf, versions_of}
 
 -- ---- the whole
 
--- A play of the script with the first configuration, and a gateway of the second that follows it, in which each data set has a source: behind each tick and pump of
+-- A play of the script with the first configuration, and a gateway of the second that follows it, in which each data set has a source: after each tick and pump of
 -- the session the gateway collects what its readers have stored, and has a tick of as many milliseconds, and a pump. Each link that tells a journal tells its own, and the
 -- text tells the play, and no other, and the gateway: its numbers have 64 bits, and what it publishes is of the history that the script writes where the source's read group takes
 -- nothing but what was sent; where the reader's does too, so is what a matched reader that goes by numbers holds.
@@ -120,7 +120,7 @@ pub record Follows (second : Config) (ms : ℕ) (closing : Bool) (old new : Rela
 
 -- ---- a line, and the closing tick
 
--- what comes behind the player's line: a tick of the gateway behind one of the session, and nothing else
+-- what comes after the player's line: a tick of the gateway after one of the session, and nothing else
 abbrev pub IsBehind : Config → Act → Relay → Relay → Option LinkState → Option LinkState → Type 0
 IsBehind second (act.Tick ms) mid new told after = Follows second ms false mid new told after
 IsBehind second (act.Write thread set patch) mid new told after = (new ≡ mid) × (after ≡ told)
@@ -130,7 +130,7 @@ IsBehind second (act.Fated k fate) mid new told after = (new ≡ mid) × (after 
 IsBehind second (act.Watch thread reader times) mid new told after = (new ≡ mid) × (after ≡ told)
 IsBehind second (act.Append set) mid new told after = (new ≡ mid) × (after ≡ told)
 
--- the player plays a line, and then comes what is behind it. lab, wire: what the links tell
+-- the player plays a line, and then comes what is after it. lab, wire: what the links tell
 pub record RelaysLine (second : Config) (what : Act) (old new : Relay) (lab lab_after wire wire_after : Option LinkState) : Type 0 where
   pub mid : Player
   pub player : IsPlayer mid

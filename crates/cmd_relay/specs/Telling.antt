@@ -36,7 +36,7 @@ pub record TellsStores (p : Plan) (second : Config) (sources : List Source) (rel
 abbrev pub seat_in : Config → ℕ → ℕ → Seat
 seat_in second r i = seat_at (setting_of second r).seats i
 
--- `relayed NAME` and what comes behind it
+-- `relayed NAME` and what comes after it
 abbrev pub line_of : List ℕ → List ℕ → List ℕ
 line_of name rest = codes "relayed " ++ name ++ rest ++ feed
 

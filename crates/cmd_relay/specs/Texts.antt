@@ -1,4 +1,4 @@
--- The text of the command: the lines of the gateway behind those of the first session.
+-- The text of the command: the lines of the gateway after those of the first session.
 use Rattle.std.specs.Prelude.{◌≡◌, ℕ, ◌<◌, List, [], ◌∷◌, ◌++◌, length, map, codes, count_by, Option, Some, None, option_and_then, slice_index_or}
 use Rattle.std.specs.Fmt.{decimal}
 use Rattle.dataset_meta.specs.declared.field.Field.{Field}
@@ -68,7 +68,7 @@ TextsOf IsText [] text = text ≡ []
 TextsOf IsText (place ∷ places) text =
     (one rest : List ℕ) × IsText place one × TextsOf IsText places rest × (text ≡ one ++ rest)
 
--- behind other text
+-- after other text
 pub record Wrote (IsText : MemberPlace → List ℕ → Type 0) (places : List MemberPlace) (front whole : List ℕ) : Type 0 where
   pub text : List ℕ
   pub texts : TextsOf IsText places text

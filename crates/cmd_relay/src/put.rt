@@ -39,7 +39,7 @@ pub(crate) fn put_stored(
     put(out, b":")
 }
 
-/// A word, and behind it the number, or a dash where there is none.
+/// A word, and after it the number, or a dash where there is none.
 fn put_if_known(out: &mut Vec<u8>, word: &[u8], number: Option<u64>) -> Result<(), NoMemory>
     ensures { OnOk result (out.new.items ≡ out.old.items ++ (word.now ++ number_or_dash number)) }
 {

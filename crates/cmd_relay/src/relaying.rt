@@ -184,7 +184,7 @@ impl<'c> Relay<'c> {
         text_of(alloc, &accepted.first, &closed, &accepted.second, &gateway)
     }
 
-    /// Plays the lines of the script in order. Behind each tick comes one of the gateway.
+    /// Plays the lines of the script in order. After each tick comes one of the gateway.
     fn play<R: Wait, A: Link, B: Link>(
         &mut self,
         rt: &R,
@@ -213,7 +213,7 @@ impl<'c> Relay<'c> {
         Ok(())
     }
 
-    /// Plays one line, and where it is a tick, one of the gateway behind it.
+    /// Plays one line, and where it is a tick, one of the gateway after it.
     fn play_line<R: Wait, A: Link, B: Link>(
         &mut self,
         rt: &R,

@@ -73,7 +73,7 @@ fn put_writers(out: &mut Vec<u8>, second: &Config, gateway: &Gateway<'_>) -> Res
     Ok(())
 }
 
-/// Those of the writers of a group, behind other lines.
+/// Those of the writers of a group, after other lines.
 fn put_group(
     out: &mut Vec<u8>,
     second: &Config,
@@ -113,7 +113,7 @@ fn put_readers(out: &mut Vec<u8>, second: &Config, gateway: &Gateway<'_>) -> Res
     Ok(())
 }
 
-/// Those of the readers of a read group, behind other lines.
+/// Those of the readers of a read group, after other lines.
 fn put_read_group(
     out: &mut Vec<u8>,
     second: &Config,

@@ -40,7 +40,7 @@ pub struct Words {
     pub peer: SocketAddrV4,
     /// How many ticks, or seconds, the program lives.
     pub count: u64,
-    /// The words behind these.
+    /// The words after these.
     pub options: Vec<String>,
 }
 

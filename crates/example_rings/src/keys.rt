@@ -17,7 +17,7 @@ const KEYS: u32 = 16;
 /// How long each of them is used, in milliseconds (KeyLifetime).
 const LIFETIME: u64 = 400;
 
-/// What is asked for: the current key and those behind it (StartingTokenId 0), two in all (RequestedKeyCount).
+/// What is asked for: the current key and those after it (StartingTokenId 0), two in all (RequestedKeyCount).
 const CURRENT: u32 = 0;
 
 const COUNT: u32 = 2;

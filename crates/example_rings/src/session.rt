@@ -95,7 +95,7 @@ impl Session {
         Ok(token)
     }
 
-    /// The four turns while a ring stands: the token rolls over behind two of them.
+    /// The four turns while a ring stands: the token rolls over after two of them.
     pub fn turns(&mut self) -> Result<Tally, Fault> {
         self.tally = Tally::default();
         self.roll_over()?;
@@ -112,7 +112,7 @@ impl Session {
         self.deliver_late(slow, held_back, first_of_later)
     }
 
-    /// The datagrams of the token before were on their way: one comes before the later token's first, and one behind it.
+    /// The datagrams of the token before were on their way: one comes before the later token's first, and one after it.
     fn deliver_late(
         &mut self,
         slow: Sent,

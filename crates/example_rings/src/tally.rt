@@ -5,7 +5,7 @@ use std::fmt::{self, Display, Formatter, Write};
 #[derive(Clone, Copy, Debug, Default, PartialEq, Eq)]
 pub struct Tally {
     pub sent: u32,
-    /// Taken, with the row that was published held behind it.
+    /// Taken, with the row that was published held after it.
     pub taken: u32,
     /// Refused, since one of a later token was taken before.
     pub late: u32,

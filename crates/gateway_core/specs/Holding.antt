@@ -96,7 +96,7 @@ pub record MayPump (s : Gateway) : Type 0 where
   pub gateway : IsGateway s
   pub left : 0 < s.left.pumps
 
--- ---- what may come behind a call
+-- ---- what may come after a call
 
 -- a collect came
 pub record CountsCollect (old new : Left) : Type 0 where

@@ -74,7 +74,7 @@ impl Gateway<'_> {
     }
 
     /// The token that a key group's sender uses, and the last number that it used under this token: what a device stores, so that
-    /// its next gateway goes on behind it.
+    /// its next gateway goes on after it.
     pub fn standing(&self, key_group: u8) -> (u32, u32)
         requires gateway { IsGateway self.now }
         requires there { key_group < length self.now.config.now.keygroup }

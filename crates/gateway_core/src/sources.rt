@@ -54,7 +54,7 @@ fn reader_names(alloc: Global, config: &Config) -> Result<Vec<Name32>, NoMemory>
     Ok(names)
 }
 
-/// Behind other names those of these readers.
+/// After other names those of these readers.
 fn add_names(names: &mut Vec<Name32>, readers: &[ReaderPart]) -> Result<(), NoMemory>
     ensures { OnOk result (names.new.items
         ≡ names.old.items ++ map (λ reader. reader.name) readers.now) }

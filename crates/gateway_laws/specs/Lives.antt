@@ -22,7 +22,7 @@ abbrev pub ShowsOrigins : Plan → List ℕ → List Source → List Step → Li
 ShowsOrigins p places sources now origins =
     (set : ℕ) → set < length places → slice_index_or origins (slice_index_or places set 0) no_origin ≡ origin_at p (source_at sources set) now
 
--- the gateway has its sources at these indexes: behind each round of the session it was shown passes and origins, had a tick of as many milliseconds, and a pump
+-- the gateway has its sources at these indexes: after each round of the session it was shown passes and origins, had a tick of as many milliseconds, and a pump
 abbrev pub Lives : Plan → List ℕ → List Source → List RelayStep → List GatewayStep → Type 0
 Lives p places sources [] lived = lived ≡ []
 Lives p places sources (Enable id ∷ before) lived = Lives p places sources before lived

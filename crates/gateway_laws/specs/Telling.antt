@@ -44,7 +44,7 @@ pub record IsKnown (p : Plan) (second : Config) (sources : List Source) (relay :
 
 -- ---- writers
 
--- the round of a relay in which a writer had this turn, behind these deeds
+-- the round of a relay in which a writer had this turn, after these deeds
 pub record IsTurnOf (second : Config) (relay : List RelayStep) (g w : ℕ) (turn : WriterTurn) (before : List WriterDeed) : Type 0 where
   pub newer : List RelayStep
   pub round : RelayStep
@@ -55,7 +55,7 @@ pub record IsTurnOf (second : Config) (relay : List RelayStep) (g w : ℕ) (turn
   pub since : List WriterDeed
   pub behind : before ≡ since ++ writer_deeds (plan_again second) g w (seconds older)
 
--- A data frame of this place tells this store: it is the number of stores that the source has at the frame's own round, behind the first session's pump, and up to the
+-- A data frame of this place tells this store: it is the number of stores that the source has at the frame's own round, after the first session's pump, and up to the
 -- frame the writer's frames publish the row of the store. Where the source's read group takes
 -- nothing but what was sent, its version is known.
 pub record TellsStore (p : Plan) (second : Config) (sources : List Source) (relay : List RelayStep) (rows : ℕ → ℕ → List DataValue) (g w place store : ℕ) : Type 0 where

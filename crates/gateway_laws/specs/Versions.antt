@@ -12,7 +12,7 @@ use Rattle.gateway_laws.specs.Origins.{origin_at}
 use Rattle.gateway_core.specs.declared.collected.StoreVersion.{StoreVersion}
 use Rattle.gateway_core.specs.Lived.{first_version, kept_on, version_by}
 
--- the stores of a source that were collected, each with the version that its origin had when it was collected behind another store
+-- the stores of a source that were collected, each with the version that its origin had when it was collected after another store
 abbrev pub versions_kept : Plan → Source → List RelayStep → List StoreVersion
 versions_kept p source [] = first_version ∷ []
 versions_kept p source (Enable id ∷ before) = versions_kept p source before

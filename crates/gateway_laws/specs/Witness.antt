@@ -1,4 +1,4 @@
--- A relay of the first run: the built-in configuration, and behind it a gateway of the same with the data set of its reader.
+-- A relay of the first run: the built-in configuration, and after it a gateway of the same with the data set of its reader.
 use Rattle.std.specs.Prelude.{◌++◌, ℕ, true, false, List, [], ◌∷◌, codes, replicate, map, Some, None}
 use Rattle.dataset_meta.specs.Metas.{MetaData, meta_of}
 use Rattle.ua_base.specs.Journal.{Empty, Entry, Got}

@@ -20,9 +20,9 @@ ghost use Rattle.gateway_laws.specs.Witness.{again_config, again_text, first_rel
 use ps_config::{an_accepted_configuration_is_sound, the_built_in_configuration_is_sound};
 use session_laws::small_sessions_meet_the_premises;
 
-/// A gateway behind the first run: the session is that of the built-in configuration with a tick and the closing one, and the second
-/// configuration, which is accepted, has the data set of its reader. All that is sent comes, over both links. Behind the first round
-/// the second reader holds store 1, behind the last one store 2, both of version 1, and nothing is cut. So the premises of each law
+/// A gateway after the first run: the session is that of the built-in configuration with a tick and the closing one, and the second
+/// configuration, which is accepted, has the data set of its reader. All that is sent comes, over both links. After the first round
+/// the second reader holds store 1, after the last one store 2, both of version 1, and nothing is cut. So the premises of each law
 /// of gateways are met.
 pub fn a_small_relay_meets_the_premises()
     ensures accepted { configuration again_text ≡ Ok again_config }

@@ -53,7 +53,7 @@ pub record IsMatchedTo (config : Config) (readers : ReadGroupPart) (reader : ℕ
   pub within : reader < length readers.reader
   pub reads : ReadsWriter group writer (reader_at readers reader)
 
--- fields were appended to a writer's data set behind this meta, and its frames tell it by a greater minor version
+-- fields were appended to a writer's data set after this meta, and its frames tell it by a greater minor version
 pub record HasGrownSince (writer : WriterPart) (before now : MetaData) : Type 0 where
   pub fields : HasGrown before now
   pub versions : writer.versions ≡ true
@@ -85,7 +85,7 @@ MaySend config group count (Some s) =
     (is_secured group.security ≡ true) × (s.used + count < 2 ^ 32)
     × IfSome group.keygroup (λ index. IsSenderOf (keygroup_at config index) s)
 
--- a turn of a group of a sound configuration, behind these deeds, with numbers left for its datagrams and headers that can be written
+-- a turn of a group of a sound configuration, after these deeds, with numbers left for its datagrams and headers that can be written
 pub record IsGroupTurn (config : Config) (group : GroupPart) (past : List GroupDeed) (input : TurnInput) : Type 0 where
   pub sound : IsSound config
   pub group_is : Contains config.group group
@@ -127,7 +127,7 @@ IsBuiltInTurn past input =
 
 -- ---- what follows from the types of a configuration
 
--- A turn of a group of a configuration that was read, behind these deeds, with numbers left for its datagrams. That their headers can be written isn't asked.
+-- A turn of a group of a configuration that was read, after these deeds, with numbers left for its datagrams. That their headers can be written isn't asked.
 pub record IsAllowedTurn (config : Config) (group : GroupPart) (past : List GroupDeed) (input : TurnInput) : Type 0 where
   pub sound : IsSound config
   pub types : HasTypes config

@@ -15,7 +15,7 @@ use Rattle.reader_group.specs.Settings.{keygroup_at}
 use Rattle.group_laws.specs.Matching.{IsGroupTurn, IsSenderOf}
 use Rattle.group_laws.specs.TurnReading.{IsFixedTurn, IsSampled}
 
--- a call of `Group::tick` behind some deeds: what it is given, the group before and after, and the datagrams
+-- a call of `Group::tick` after some deeds: what it is given, the group before and after, and the datagrams
 pub record Tick : Type 0 where
   pub config : Config
   pub part : GroupPart
@@ -33,7 +33,7 @@ pub record Tick : Type 0 where
 abbrev pub tick_input : Tick → TurnInput
 tick_input t = input_of t.now t.closing t.metas t.rows t.on t.sender
 
--- the call's conditions were met, and what it ensures behind these deeds holds
+-- the call's conditions were met, and what it ensures after these deeds holds
 pub record WasTick (t : Tick) : Type 0 where
   pub good : IsGood t.config
   pub asked : MayTick t.config t.metas t.rows t.on t.sender t.group t.part

@@ -64,7 +64,7 @@ IsSenderAheadIf accepted (Some s) = IsSenderAhead accepted s
 
 -- ---- a turn and a reader
 
--- a turn of a group behind some deeds, and a reader of a read group, with what the read group went through before and when the turn's datagrams come to it
+-- a turn of a group after some deeds, and a reader of a read group, with what the read group went through before and when the turn's datagrams come to it
 pub record Course : Type 0 where
   pub config : Config
   pub group : GroupPart

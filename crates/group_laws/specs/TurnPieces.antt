@@ -32,7 +32,7 @@ abbrev pub dynamic_pieces : Publisher → GroupPart → Option Spelled → List 
 dynamic_pieces publisher group None = []
 dynamic_pieces publisher group (Some frame) = frame_pieces (frame_room publisher group) (chunk_room publisher group) frame
 
--- what stands in the slot of the writer with this index in a fixed layout: its frame with zeros behind it, or zeros
+-- what stands in the slot of the writer with this index in a fixed layout: its frame with zeros after it, or zeros
 abbrev pub fixed_pieces : Config → GroupPart → ℕ → Option Spelled → List Piece
 fixed_pieces config group writer None = Slotted (replicate (writer_slot config (writer_at group writer)).size 0) ∷ []
 fixed_pieces config group writer (Some frame) = Slotted (filled (writer_slot config (writer_at group writer)) frame.bytes) ∷ []

@@ -58,7 +58,7 @@ pub fn a_dynamic_turn_is_read_as_it_was_answered()
 {}
 
 /// What the datagram of a turn of a fixed group has for the reader of a writer is what stands in that writer's slot: its
-/// frame with zeros behind it, or zeros.
+/// frame with zeros after it, or zeros.
 pub fn a_fixed_turn_has_its_writers_slot()
     ensures { (config : Config) → HaveItsSlot config }
 {}
@@ -124,7 +124,7 @@ pub fn an_allowed_turn_is_a_group_turn()
 {}
 
 /// A turn that `Group::tick` had, of a group of an accepted configuration whose sender is one of its key group, is one that these
-/// laws speak of, behind whatever deeds the call is seen.
+/// laws speak of, after whatever deeds the call is seen.
 pub fn a_turn_of_tick_is_a_group_turn()
     ensures { (t : Tick) → WasGroupTick t → IsTurnOfGroup t }
 {}

@@ -25,7 +25,7 @@ IsOfLink config told lines skipped =
 abbrev pub opened_if : Bool → Option Opening → Option Opening
 opened_if is_open opening = if is_open then opening else None
 
--- the line that a datagram gives behind so many others, where it gives one
+-- the line that a datagram gives after so many others, where it gives one
 abbrev pub line_for : Config → ℕ → List ℕ → Option (List ℕ)
 line_for config number datagram = option_map (line config number) (transcoded config datagram)
 

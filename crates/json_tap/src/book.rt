@@ -17,7 +17,7 @@ pub struct Book {
 }
 
 impl Book {
-    /// The line of a datagram behind those so far, where it gives one, and memory to keep it.
+    /// The line of a datagram after those so far, where it gives one, and memory to keep it.
     pub fn line_for(
         &mut self,
         alloc: Global,

@@ -5,7 +5,7 @@ use Rattle.json_frames.specs.declared.message.JsonPart.{JsonPart}
 use Rattle.json_frames.specs.Parts.{IsPartOf, parts_in}
 use Rattle.json_text.specs.Reading.{ReadsLine}
 
--- the line is read as the parts that stand behind the old ones, each of which can be written again
+-- the line is read as the parts that stand after the old ones, each of which can be written again
 pub record AddsLine (config : Config) (line : List ℕ) (old new : List JsonPart) : Type 0 where
   pub added : List JsonPart
   pub new_is : new ≡ old ++ added

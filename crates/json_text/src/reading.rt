@@ -34,7 +34,7 @@ pub(crate) fn parts_of(
     Ok(parts)
 }
 
-/// Puts the parts of a line behind those so far.
+/// Puts the parts of a line after those so far.
 fn read_line(
     alloc: Global,
     config: &Config,

@@ -10,7 +10,7 @@ use Rattle.lane_groups.specs.declared.turn.TurnIn.{TurnIn}
 abbrev pub plan_of : Config → Plan
 plan_of config = record { config = config; full = config.dataset }
 
--- what the publisher has done behind one turn more: it has a tick
+-- what the publisher has done after one turn more: it has a tick
 abbrev pub ticked : Config → List Deed → TurnIn → List Deed
 ticked config deeds turn = tick_deeds (plan_of config) [] turn.now turn.closing turn.rows.items deeds
 

@@ -76,7 +76,7 @@ pub record IsWhole (datagram : List ℕ) : Type 0 where
   pub some : 0 < length datagram
   pub short : length datagram < 2 ^ 32
 
--- behind these deeds it has the turn, if it has one, and made the datagrams of it
+-- after these deeds it has the turn, if it has one, and made the datagrams of it
 pub record PassesFrom (told : Told) (g : ℕ) (before : List Deed) (new : Place) (sender : Option SenderState) : Type 0 where
   pub past : HasPast told.config.now (turned_by told before g) g new
   pub sender_is : sender ≡ sender_of told.config.now g (turned_by told before g)

@@ -16,7 +16,7 @@ use ua_base::{Gate, Link, NoMemory};
 /// What a run leaves.
 #[derive(Drop)]
 pub struct Ran {
-    /// The lanes behind their last turns, in the order in which they were given.
+    /// The lanes after their last turns, in the order in which they were given.
     pub lanes: Vec<Lane>,
     /// How many datagrams of each group were sent.
     pub sent: [u64; 4],

@@ -8,11 +8,11 @@ use Rattle.session_model.specs.Counts.{longest_datagram}
 abbrev pub IsOfItsCalls : Settings → List Entry → Type 0
 IsOfItsCalls settings journal = (standing_of settings journal).state.journal ≡ journal
 
--- what waits behind these entries
+-- what waits after these entries
 abbrev pub waiting_behind : Settings → List Entry → List (List ℕ)
 waiting_behind settings journal = (standing_of settings journal).state.waiting
 
--- behind these entries a pump takes all that waits, in order, and then nothing is ready
+-- after these entries a pump takes all that waits, in order, and then nothing is ready
 abbrev pub TakesAll : Settings → List Entry → List Entry → Type 0
 TakesAll settings before entries = entries ≡ map Got (waiting_behind settings before) ++ Empty ∷ []
 

@@ -41,7 +41,7 @@ pub record IsFixedWriter (config : Config) (writer : WriterPart) : Type 0 where
   pub no_keep_alive : writer.keep_alive ≡ 0
   pub no_quality : option_map_or (λ meta. meta.quality) (slice_get config.dataset writer.dataset) false ≡ false
 
--- the writers' slots lie apart behind the header, have room for their messages, and leave room for the signature
+-- the writers' slots lie apart after the header, have room for their messages, and leave room for the signature
 pub record IsFixedGroup (config : Config) (group : GroupPart) : Type 0 where
   pub writers : All (IsFixedWriter config) group.writer
   pub slots : AreSlots (header_len (header_of config.publisher.id (header_settings group) (ids_of false)))

@@ -17,7 +17,7 @@ publisher_value (publisher.U32 id) = U32 id
 publisher_value (publisher.U64 id) = U64 id
 publisher_value (publisher.Text text) = Text text
 
--- a PublisherId of at most 68 bytes: those of a text are at most 64, behind the four of its length
+-- a PublisherId of at most 68 bytes: those of a text are at most 64, after the four of its length
 abbrev pub IsShortId : Publisher → Type 0
 IsShortId publisher = publisher_len (publisher_value publisher) ≤ 68
 
@@ -75,6 +75,6 @@ header_of publisher settings ids = record {
   security = security_value settings.security;
 }
 
--- the bytes of a signature behind the payload (HMAC-SHA-256)
+-- the bytes of a signature after the payload (HMAC-SHA-256)
 abbrev pub signature_len : Security → ℕ
 signature_len security = if is_secured security then 32 else 0

@@ -34,7 +34,7 @@ LackSlotFaults part ts index =
     (before : List Located) (t : Located) (after : List Located)
     → ts ≡ before ++ t ∷ after → is_inner_of part index t.place ≡ true → HasNoSlotFault ts before t
 
--- they are the slots of a layout: behind a header of so many bytes, in a datagram of at most so many with its signature
+-- they are the slots of a layout: after a header of so many bytes, in a datagram of at most so many with its signature
 abbrev pub AreSlotsOf : Part → ℕ → ℕ → List Located → Located → Type 0
 AreSlotsOf part header most ts group =
     AreSlots header (most - signature_len (security_at group.members)) (slots_in part ts group)

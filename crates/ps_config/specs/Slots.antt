@@ -56,7 +56,7 @@ is_slot_small ts t = is_slot t && nat_lt (size_of t) (front_length t + width_nam
 abbrev pub slot_limit : Located → ℕ
 slot_limit t = if is_inner Group t.place then number_at key.MaxSize 65000 1400 t.outer else 65000
 
--- a slot, and the signature behind it, go past the datagram's end
+-- a slot, and the signature after it, go past the datagram's end
 abbrev pub is_slot_past : Located → Bool
 is_slot_past t = is_slot t && nat_lt (slot_limit t) (offset_of t + size_of t + signature_len (security_at t.outer))
 

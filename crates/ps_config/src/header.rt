@@ -149,7 +149,7 @@ pub fn mode_of(security: Security) -> Mode
     }
 }
 
-/// The bytes of the signature behind a datagram's payload: 32, or none where nothing is signed.
+/// The bytes of the signature after a datagram's payload: 32, or none where nothing is signed.
 pub fn signature_size(security: Security) -> u32
     ensures size { result ≡ signature_len security }
     ensures bound { result ≤ 32 }

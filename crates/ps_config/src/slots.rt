@@ -155,7 +155,7 @@ fn raw_size(tables: &[Placed], index: usize) -> u128
     size
 }
 
-/// A slot, and the signature behind it, go past the datagram's end.
+/// A slot, and the signature after it, go past the datagram's end.
 pub(crate) fn is_slot_past(placed: &Placed) -> bool
     ensures { result ≡ is_slot_past (seen placed.now) }
 {

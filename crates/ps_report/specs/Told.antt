@@ -34,7 +34,7 @@ pub record TellsHeld (config : Config) (writers : List WriterEnd) (group : ReadG
       held.version ≡ option_and_then (version_of (log_of (writers_of config.group) writers part.writer)) held.number
   pub other : group.publisher ≢ config.publisher.id → held.version ≡ None
 
--- each reader behind its read group, over all read groups in order
+-- each reader after its read group, over all read groups in order
 abbrev pub grouped_readers : List ReadGroupPart → List (ReadGroupPart × ReaderPart)
 grouped_readers groups = flat_map (λ group. map (λ part. (group, part)) group.reader) groups
 

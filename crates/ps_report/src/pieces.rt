@@ -31,7 +31,7 @@ pub fn put_number(out: &mut Vec<u8>, number: u64) -> Result<(), NoMemory>
     put(out, buffer.format(number).as_bytes())
 }
 
-/// A word, and a number behind it.
+/// A word, and a number after it.
 pub fn put_named(out: &mut Vec<u8>, word: &[u8], number: u64) -> Result<(), NoMemory>
     ensures { OnOk result (out.new.items ≡ out.old.items ++ (word.now ++ decimal number)) }
 {

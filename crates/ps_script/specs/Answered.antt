@@ -56,7 +56,7 @@ abbrev pub StepsBy : {E : Type 0} → Given → Past → Past → List ℕ → R
 StepsBy given old new line result =
     (reader : ValueReader) → IfOk result (Steps reader given.config.now given.takes_fates (done_by old) (done_by new) line)
 
--- and read, behind those that were read before it
+-- and read, after those that were read before it
 abbrev pub ReadsBy : {E : Type 0} → Given → ℕ → List ℕ → List Line → Reading → Result (Option ScriptFault) E → Type 0
 ReadsBy given number line before new result =
     (reader : ValueReader)

@@ -13,16 +13,16 @@ use Rattle.ps_script.specs.Acts.{next_number}
 abbrev pub done_behind : Config → List (List ℕ) → Done
 done_behind config lines = fold (after config) (nothing_done config) lines
 
--- the fault doesn't stand at the line behind these
+-- the fault doesn't stand at the line after these
 abbrev pub StandsNot : ValueReader → Config → Bool → List (List ℕ) → List ℕ → ScriptFault → Type 0
 StandsNot reader config takes_fates before line fault =
     stands reader fault config takes_fates (done_behind config before) line ≡ false
 
--- none of the faults stands at the line behind these
+-- none of the faults stands at the line after these
 abbrev pub IsFaultless : ValueReader → Config → Bool → List (List ℕ) → List ℕ → Type 0
 IsFaultless reader config takes_fates before line = AllByRecursion (StandsNot reader config takes_fates before line) faults
 
--- the fault stands at the line behind these, and none of those that are before it in their order
+-- the fault stands at the line after these, and none of those that are before it in their order
 pub record IsFirstFault (reader : ValueReader) (config : Config) (takes_fates : Bool) (before : List (List ℕ)) (line : List ℕ)
     (fault : ScriptFault) : Type 0 where
   pub front : List ScriptFault

@@ -63,7 +63,7 @@ abbrev pub grown_by : List MetaData → Field → Option ℕ → List MetaData
 grown_by metas field None = metas
 grown_by metas field (Some set) = grown_at metas set field (slice_get metas set)
 
--- the data sets behind a line `append`
+-- the data sets after a line `append`
 unfoldable pub metas_after : List MetaData → List ℕ → List MetaData
 metas_after metas line = grown_by metas (field_of line) (set_named metas (word 1 line))
 

@@ -15,7 +15,7 @@ use Rattle.ps_script.specs.Faults.{is_bad_append}
 use Rattle.ps_script.specs.Refusals.{fault_of}
 use Rattle.ps_script.specs.Acts.{next_number, acts_from}
 
--- refused at this line, or what the lines behind it give
+-- refused at this line, or what the lines after it give
 abbrev pub refused_or : ℕ → Option ScriptFault → Result Done (ℕ × ScriptFault) → Result Done (ℕ × ScriptFault)
 refused_or number (Some fault) rest = Err (number, fault)
 refused_or number None rest = rest

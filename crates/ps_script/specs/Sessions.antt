@@ -58,7 +58,7 @@ spans_by _ = []
 abbrev pub moment_after : List Line → ℕ
 moment_after lines = sum (flat_map (λ line. spans_by line.act) lines)
 
--- a data set behind these lines: of all its fields those that the configuration gives it and those that the lines
+-- a data set after these lines: of all its fields those that the configuration gives it and those that the lines
 -- append, and a minor version that is one higher for each of these
 abbrev pub meta_behind : ℕ → MetaData → MetaData → List Line → MetaData
 meta_behind set configured full lines =
@@ -72,7 +72,7 @@ metas_from set (meta ∷ configured) [] lines = []
 metas_from set (meta ∷ configured) (whole ∷ full) lines =
     meta_behind set meta whole lines ∷ metas_from (set + 1) configured full lines
 
--- the configured data sets behind these lines; with all fields that the script appends they are the second
+-- the configured data sets after these lines; with all fields that the script appends they are the second
 abbrev pub metas_behind : List MetaData → List MetaData → List Line → List MetaData
 metas_behind configured full lines = metas_from 0 configured full lines
 
@@ -81,6 +81,6 @@ enabled_by id on (act.Enable other) = other == id || on
 enabled_by id on (act.Disable other) = not (other == id) && on
 enabled_by id on _ = on
 
--- whether a component is enabled behind these lines (OPC 10000-14 6.2.1, PubSubState): each is at first
+-- whether a component is enabled after these lines (OPC 10000-14 6.2.1, PubSubState): each is at first
 abbrev pub is_enabled : ℕ → List Line → Bool
 is_enabled id lines = fold (λ on line. enabled_by id on line.act) true lines

@@ -28,7 +28,7 @@ pub record IsGrown (set : ℕ) (lines : List Line) (configured full : MetaData) 
   pub grown : HasGrown configured full
   pub is_meta : IsMeta full.fields
 
--- a patch of the data set with all its fields, which marks some, and none but those that the data set has behind these
+-- a patch of the data set with all its fields, which marks some, and none but those that the data set has after these
 -- lines
 pub record IsWrite (config : Config) (full : List MetaData) (before : List Line) (thread set : ℕ) (patch : Patch) : Type 0 where
   pub bound : thread < 8
@@ -37,12 +37,12 @@ pub record IsWrite (config : Config) (full : List MetaData) (before : List Line)
   pub some : 0 < patch.mask
   pub marks : HoldsAt (λ meta. patch.mask < 2 ^ length meta.fields) (metas_behind config.dataset full before) set
 
--- a component, which is enabled behind these lines or isn't
+-- a component, which is enabled after these lines or isn't
 pub record IsSwitch (config : Config) (before : List Line) (id : ℕ) (on : Bool) : Type 0 where
   pub there : id < length (component_names config)
   pub was : is_enabled id before ≡ on
 
--- the datagram until which one is held back, or that one comes again behind
+-- the datagram until which one is held back, or that one comes again after
 abbrev pub last_of : Fate → ℕ
 last_of (fate.Hold after) = after
 last_of (fate.Again after) = after

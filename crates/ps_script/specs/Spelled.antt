@@ -25,7 +25,7 @@ abbrev pub decoded_or_none : {E : Type 0} → Result (List ℕ) E → List ℕ
 decoded_or_none (Ok bytes) = bytes
 decoded_or_none (Err e) = []
 
--- the bytes whose digits stand behind `0x`
+-- the bytes whose digits stand after `0x`
 abbrev pub bytes_behind : List ℕ → List ℕ
 bytes_behind word = decoded_or_none (decode_of (drop 2 word))
 

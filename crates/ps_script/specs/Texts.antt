@@ -6,7 +6,7 @@ abbrev pub until : ℕ → List ℕ → List ℕ
 until mark [] = []
 until mark (byte ∷ bytes) = if byte == mark then [] else byte ∷ until mark bytes
 
--- behind the first such byte; nothing where there is none
+-- after the first such byte; nothing where there is none
 abbrev pub behind : ℕ → List ℕ → List ℕ
 behind mark [] = []
 behind mark (byte ∷ bytes) = if byte == mark then bytes else behind mark bytes
@@ -34,6 +34,6 @@ has_bytes (byte ∷ bytes) = true
 unfoldable pub words_of : List ℕ → List (List ℕ)
 words_of line = filter has_bytes (pieces 32 line)
 
--- the word at this index, from 0; nothing behind the last
+-- the word at this index, from 0; nothing after the last
 abbrev pub word : ℕ → List ℕ → List ℕ
 word index line = slice_index_or (words_of line) index []

@@ -52,7 +52,7 @@ pub record IsSoundWrite (reader : ValueReader) (config : Config) (takes_fates : 
   pub faultless : fault_of reader config takes_fates done line ≡ None
   pub acts : act_of reader config done.metas line ≡ Some (act.Write thread set patch)
 
--- a line without a fault is read behind those before it, by these data sets
+-- a line without a fault is read after those before it, by these data sets
 abbrev pub Reads : ValueReader → Config → List MetaData → ℕ → List ℕ → List Line → List Line → Option ScriptFault → Type 0
 Reads reader config metas number line old new (Some fault) = ⊤
 Reads reader config metas number line old new None = new ≡ old ++ with_act number (act_of reader config metas line) []

@@ -97,7 +97,7 @@ pub fn generated_work_is_sound()
 {}
 
 /// A data set is the configured one before the first line, and the script's, with all its fields,
-/// behind the last. Among all data sets behind some lines it stands in its place.
+/// after the last. Among all data sets after some lines it stands in its place.
 pub fn data_sets_begin_as_configured()
     ensures first { (config : ConfigValue) (script : ScriptValue) (set : ℕ)
         (configured full : MetaData) → IsSetOf config script set configured full
@@ -149,7 +149,7 @@ pub fn written_patches_are_of_their_data_set()
         → patches_of thread set (lines ++ line ∷ []) ≡ patches_of thread set lines }
 {}
 
-/// A line that gives a datagram its fate adds it behind those of the lines before. No other line
+/// A line that gives a datagram its fate adds it after those of the lines before. No other line
 /// gives any.
 pub fn fates_come_in_the_order_of_lines()
     ensures none { fates_of [] ≡ [] }

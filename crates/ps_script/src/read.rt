@@ -104,7 +104,7 @@ fn read(
 }
 
 /// The lines by data sets with all fields: those that were read, where nothing was appended. A patch
-/// has the statuses behind all values, so one that was read before an append is another behind it.
+/// has the statuses after all values, so one that was read before an append is another after it.
 fn whole_lines(
     alloc: Global,
     given: &Given,

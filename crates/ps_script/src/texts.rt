@@ -2,7 +2,7 @@
 ghost use Rattle.std.specs.Prelude.{◌≡◌, ◌==◌, position, ◌<◌, ◌≤◌, ◌∷◌, [], length, drop, MatchOption, IfSome};
 ghost use Rattle.ps_script.specs.Texts.{until, behind, words_of, word};
 
-/// The bytes up to the first such byte, and those behind it. Where there is none: all, and none.
+/// The bytes up to the first such byte, and those after it. Where there is none: all, and none.
 #[tactic(auto, using(crate::proofs::Pieces::until_some, crate::proofs::Pieces::behind_some, crate::proofs::Pieces::place_some, crate::proofs::Pieces::until_none, crate::proofs::Pieces::behind_none))]
 pub(crate) fn cut(bytes: &[u8], mark: u8) -> (&[u8], &[u8])
     ensures front { result.0.now ≡ until mark bytes.now }
@@ -21,7 +21,7 @@ fn place_of(bytes: &[u8], mark: u8) -> Option<usize>
     bytes.iter().position(|byte| *byte == mark)
 }
 
-/// The first word of a line, and what stands behind it.
+/// The first word of a line, and what stands after it.
 #[tactic(auto, using(crate::proofs::Pieces::word_first, crate::proofs::Pieces::word_later, crate::proofs::Pieces::words_none))]
 pub(crate) fn first_word(line: &[u8]) -> Option<(&[u8], &[u8])>
     ensures words { MatchOption result (words_of line.now ≡ [])
@@ -39,7 +39,7 @@ pub(crate) fn first_word(line: &[u8]) -> Option<(&[u8], &[u8])>
     None
 }
 
-/// What stands behind so many words.
+/// What stands after so many words.
 #[tactic(auto, using(crate::proofs::Pieces::drop_first, crate::proofs::Pieces::drop_nothing))]
 pub(crate) fn behind_words(line: &[u8], count: usize) -> &[u8]
     ensures words { words_of result.now ≡ drop count (words_of line.now) }
@@ -57,7 +57,7 @@ pub(crate) fn behind_words(line: &[u8], count: usize) -> &[u8]
     rest
 }
 
-/// The word at this index, from 0; nothing behind the last.
+/// The word at this index, from 0; nothing after the last.
 pub(crate) fn word(line: &[u8], index: usize) -> &[u8]
     ensures { result.now ≡ word index line.now }
 {

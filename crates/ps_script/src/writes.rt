@@ -31,7 +31,7 @@ struct WriteHead<'a> {
     thread: u8,
     /// The place of the data set.
     set: usize,
-    /// The line behind its third word.
+    /// The line after its third word.
     fields: &'a [u8],
 }
 

@@ -52,7 +52,7 @@ AreToCome config full metas (growth ∷ later) =
 abbrev pub grown_by : List MetaData → Append → List MetaData
 grown_by metas append = slice_set metas append.set (grown (meta_in metas append.set) append.field)
 
--- the data set that the append names, and what it is behind it
+-- the data set that the append names, and what it is after it
 pub record IsGrowthBy (metas : List MetaData) (append : Append) (growth : Growth) : Type 0 where
   pub set : growth.set ≡ append.set
   pub meta : growth.meta ≡ grown (meta_in metas append.set) append.field

@@ -1,4 +1,4 @@
--- What a session is when it is closed, by what became of it: behind steps alone, and in a life in which rings renew its keys.
+-- What a session is when it is closed, by what became of it: after steps alone, and in a life in which rings renew its keys.
 use Rattle.std.specs.Prelude.{◌≡◌, ◌≢◌, ℕ, Bool, true, List, None, IfSome, map, option_and_then}
 use Rattle.std.specs.List.{AllZip}
 use Rattle.pubsub_model.specs.Answers.{version_of}
@@ -43,7 +43,7 @@ pub record IsReaderEndBy (p : Plan) (steps : List Step) (a : Account) (place : M
   pub state : end.state ≡ state_by p.config steps a (Reader place.0 place.1)
   pub shows : Shows (seat_at (setting_of p.config place.0).seats place.1).meta (member_at (a.readings place.0).value.members place.1) end
 
--- the reader with this place, behind its read group
+-- the reader with this place, after its read group
 abbrev pub reader_in : Config → MemberPlace → ReadGroupPart × ReaderPart
 reader_in config place = (read_group_at config place.0, (seat_at (setting_of config place.0).seats place.1).part)
 

@@ -44,7 +44,7 @@ IsLogNamed versions config publisher id log =
     (most : ℕ) (metas : List MetaData) (deeds : List Deed) → AreAllLogged most publisher.groups.items → HavePast config metas deeds publisher.groups.items
     → log ≡ log_by (logs_told versions (log_after most config deeds)) config id
 
--- the log that a reader, behind its read group, names: where the read group's publisher is this program that of the writer with the id, else none
+-- the log that a reader, after its read group, names: where the read group's publisher is this program that of the writer with the id, else none
 pub record IsLogRead (versions : Bool) (config : Config) (publisher : Publisher) (at : ReadGroupPart × ReaderPart) (log : List (ℕ × ℕ)) : Type 0 where
   pub own : at.0.publisher ≡ config.publisher.id → IsLogNamed versions config publisher at.1.writer log
   pub other : at.0.publisher ≢ config.publisher.id → log ≡ []

@@ -76,7 +76,7 @@ pub(crate) fn writer_ends(
     Ok(ends)
 }
 
-/// Behind other ends those of the writers of a group.
+/// After other ends those of the writers of a group.
 fn push_writer_ends(
     alloc: Global,
     ends: &mut Vec<WriterEnd>,
@@ -184,7 +184,7 @@ pub(crate) fn reader_ends(
     Ok(ends)
 }
 
-/// Behind the ends of the readers of the read groups before it those of a read group.
+/// After the ends of the readers of the read groups before it those of a read group.
 fn push_reader_ends(
     ends: &mut Vec<ReaderEnd>,
     config: &Config,

@@ -129,7 +129,7 @@ fn sets_read(config: &Config) -> ArrayVec<u8, 16>
     sets
 }
 
-/// The data set of each of these readers, behind the others.
+/// The data set of each of these readers, after the others.
 fn add_sets(sets: &mut ArrayVec<u8, 16>, readers: &[ReaderPart])
     requires room { array_vec_len sets.old + length readers.now ≤ 16 }
     ensures { sets.new.items ≡ sets.old.items ++ map (λ reader. reader.dataset) readers.now }

@@ -17,7 +17,7 @@ use ua_base::NoMemory;
 pub(crate) struct Sets {
     pub(crate) metas: Vec<Meta>,
     pub(crate) full: Vec<Meta>,
-    /// For each append the data set and what it is behind it; once it is made, what it was before.
+    /// For each append the data set and what it is after it; once it is made, what it was before.
     later: Vec<Growth>,
     /// How many appends were made.
     made: usize,

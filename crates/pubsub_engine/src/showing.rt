@@ -79,7 +79,7 @@ impl Session<'_> {
     }
 
     /// The token that a key group's sender uses, and the last number that it used under this token: what a device stores, so that
-    /// its next session goes on behind it.
+    /// its next session goes on after it.
     pub fn standing(&self, key_group: u8) -> (u32, u32)
         requires session { IsSession self.now }
         requires there { key_group < length (plan_of self.now).config.keygroup }

@@ -40,7 +40,7 @@ IsAmong counts (Reader r i) = i < slice_index counts.readers r
 abbrev pub before_family : List ℕ → ℕ → ℕ
 before_family counts family = family + sum (take family counts)
 
--- the first id behind the groups and their writers
+-- the first id after the groups and their writers
 abbrev pub first_read_group : Counts → ℕ
 first_read_group counts = 2 + length counts.writers + sum counts.writers
 

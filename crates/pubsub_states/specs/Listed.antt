@@ -3,7 +3,7 @@ use Rattle.std.specs.Prelude.{◌≡◌, ℕ, ◌+◌, ◌≤◌, List, length, 
 use Rattle.pubsub_states.specs.declared.component.Component.{Component}
 use Rattle.pubsub_states.specs.Components.{before_family, components}
 
--- the ids of the heads of these families, of which the first has this id, and of what comes behind the last family
+-- the ids of the heads of these families, of which the first has this id, and of what comes after the last family
 abbrev pub AreHeadIds : ℕ → List ℕ → List ℕ → Type 0
 AreHeadIds first counts ids = (family : ℕ) → family ≤ length counts → slice_index ids family ≡ first + before_family counts family
 

@@ -21,7 +21,7 @@ use ua_base::NoMemory;
 pub struct Components {
     writers: ArrayVec<u8, 4>,
     readers: ArrayVec<u8, 4>,
-    // The ids of the groups and of the read groups, and behind the last of each the id that comes next.
+    // The ids of the groups and of the read groups, and after the last of each the id that comes next.
     group_ids: [u8; 5],
     read_group_ids: [u8; 5],
     in_order: Vec<Component>,
@@ -200,7 +200,7 @@ fn reader_counts(groups: &[ReadGroupPart]) -> ArrayVec<u8, 4>
     counts
 }
 
-/// The id of the head of each family, the first of which has this id, and of what comes behind the last family.
+/// The id of the head of each family, the first of which has this id, and of what comes after the last family.
 fn head_ids(first: u8, counts: &[u8]) -> [u8; 5]
     requires first { first ≤ 22 }
     requires few { length counts.now ≤ 4 }

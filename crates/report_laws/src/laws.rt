@@ -31,7 +31,7 @@ pub fn what_is_written_tells_one_session()
         ≡ appended (Some before) (report_text config other) → AreToldAlike one other }
 {}
 
-/// So do its lines before the last, whatever is written behind them; and what is written there is the same.
+/// So do its lines before the last, whatever is written after them; and what is written there is the same.
 pub fn what_begins_with_a_report_tells_its_session()
     ensures { (config : Config) (one other : Closed) (front back rest others : List ℕ)
         → IsReported config one → IsReported config other

@@ -120,7 +120,7 @@ pub record ChangesHand (thread : ℕ) (old new : List Hand) (hand after : Hand) 
   pub was : HoldsAt (λ h. h ≡ hand) old thread
   pub hands : new ≡ slice_set old thread after
 
--- A thread's passes and the session's have seen the same entries of a data set, maybe further ones than the session had, and behind them the thread's own with the
+-- A thread's passes and the session's have seen the same entries of a data set, maybe further ones than the session had, and after them the thread's own with the
 -- patch laid in; of the other data sets they have seen what the session had. The thread was answered the entry's version.
 pub record HasWritten (cell : CellData) (set : ℕ) (patch : Patch) (old new : List Known) (hand after : Hand) : Type 0 where
   pub by : ℕ
@@ -279,7 +279,7 @@ pub record IsExact (p : Plan) (lines : List Line) (steps : List Step) (looks : L
       → versions_in set (versions_at player t) ≡ places t 0 (authors (log_after (meta_in p.full set) set lines))
 
 -- The player has played these lines, the first of the script's. What a cell's contract can't say before the last sample, that nobody else wrote, is a premise: then
--- all was exact. A session that has seen no more entries than the lines write was so behind each of them, since each write adds an entry and a sample none.
+-- all was exact. A session that has seen no more entries than the lines write was so after each of them, since each write adds an entry and a sample none.
 pub record HasPlayed (config : Config) (script : Script) (lines : List Line) (told : Option LinkState) (player : Player) : Type 0 where
   pub steps : List Step
   pub looks : List WatchEnd

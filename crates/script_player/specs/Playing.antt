@@ -56,7 +56,7 @@ stores_at p steps reader =
 abbrev pub look_at : Plan → List Step → ℕ → ℕ → ℕ → WatchEnd
 look_at p steps thread reader times = record { thread = thread; reader = reader; counts = replicate times (stores_at p steps reader) }
 
--- what a line behind these makes of the steps and of the looks so far
+-- what a line after these makes of the steps and of the looks so far
 abbrev pub IsLineBy : Plan → List Line → Act → List Step → List Step → List WatchEnd → List WatchEnd → Type 0
 IsLineBy p before (act.Write thread set patch) earlier steps looked looks = (steps ≡ earlier) × (looks ≡ looked)
 IsLineBy p before (act.Tick ms) earlier steps looked looks = IsTickedBy p before ms false earlier steps × (looks ≡ looked)

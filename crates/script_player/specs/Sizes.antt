@@ -30,7 +30,7 @@ appended_sets lines = flat_map (λ line. appended_by line.act) lines
 abbrev pub appends_to : ℕ → List Append → ℕ
 appends_to set appends = count_by (λ append. append.set == set) appends
 
--- of all fields of a data set the first that it hasn't behind these appends
+-- of all fields of a data set the first that it hasn't after these appends
 abbrev pub next_field : List MetaData → ℕ → List Append → ℕ
 next_field configured set appends = length (meta_in configured set).fields + appends_to set appends
 
@@ -46,7 +46,7 @@ pub record IsNext (configured full : List MetaData) (set : ℕ) (appends : List 
   pub field : slice_get (meta_in full set).fields (next_field configured set appends) ≡ Some append.field
   pub minor : (meta_in full set).minor < 2 ^ 32
 
--- what these lines of the script append: each append is allowed when it comes, and together they make of the configured data sets what these are behind the lines
+-- what these lines of the script append: each append is allowed when it comes, and together they make of the configured data sets what these are after the lines
 pub record AppendsBy (config : Config) (script : Script) (lines : List Line) (appends : List Append) : Type 0 where
   pub allowed : AreAppends config config.dataset appends
   pub sets : map (λ append. append.set) appends ≡ appended_sets lines

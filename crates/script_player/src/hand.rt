@@ -43,7 +43,7 @@ impl Hand {
     }
 
     /// A write of a data set: its passes take in what the session has seen, and the session what they have seen then, so that the
-    /// next write of any thread and the next sample stand behind it.
+    /// next write of any thread and the next sample stand after it.
     pub(crate) fn write<R: Wait>(
         &mut self,
         rt: &R,

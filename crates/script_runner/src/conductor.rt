@@ -15,7 +15,7 @@ use std::sync::Wait;
 use target_cells::Targets;
 use ua_base::{Gate, Link, NoMemory};
 
-/// The number of the publisher at a gate, behind those of the eight threads.
+/// The number of the publisher at a gate, after those of the eight threads.
 const PUBLISHER: u32 = 8;
 
 /// Runs the lines of a script but for writes and watches, in order. The gate is called before and after each tick.
@@ -51,7 +51,7 @@ pub(crate) fn conduct<R: Wait, L: Link, G: Gate>(
     Ok(())
 }
 
-/// Runs one line, so many ticks behind the first. Writes and watches do nothing here.
+/// Runs one line, so many ticks after the first. Writes and watches do nothing here.
 fn conduct_line<R: Wait, L: Link, G: Gate>(
     rt: &R,
     session: &mut Session<'_>,

@@ -1,4 +1,4 @@
--- A reader with no numbering that holds the newest version: the closing frame of its writer comes to it, and no other key frame behind it.
+-- A reader with no numbering that holds the newest version: the closing frame of its writer comes to it, and no other key frame after it.
 use Rattle.std.specs.Prelude.{◌≡◌, ◌≢◌, ◌⊎◌, ⊤, ℕ, List, [], ◌∷◌, ◌++◌, map, All, Contains, true, false}
 use Rattle.dataset_meta.specs.DataValues.{DataValue}
 use Rattle.dataset_meta.specs.Rows.{row_cut}
@@ -29,7 +29,7 @@ NoOtherKeys row [] = ⊤
 NoOtherKeys row (Came item ∷ before) = IsNoOtherKey row item × NoOtherKeys row before
 NoOtherKeys row (Cut why ∷ before) = NoOtherKeys row before
 
--- a key frame with this row came since the last cut, and no other one behind it
+-- a key frame with this row came since the last cut, and no other one after it
 pub record CameLast (arrivals : List Arrival) (row : List DataValue) : Type 0 where
   pub later : List Item
   pub item : Item
@@ -42,21 +42,21 @@ pub record CameLast (arrivals : List Arrival) (row : List DataValue) : Type 0 wh
 abbrev pub IsBare : Plan → ℕ → ℕ → Type 0
 IsBare p r i = (seat_at (setting_of p.config r).seats i).part.numbering ≡ words.None
 
--- The last turn of the writer was a closing one, and its frame came to the reader, which has no numbering, since its last cut, and no other key frame behind it.
+-- The last turn of the writer was a closing one, and its frame came to the reader, which has no numbering, since its last cut, and no other key frame after it.
 pub record ClosingCameLast (p : Plan) (r i g w : ℕ) (steps : List Step) (before : List WriterDeed) (turn : WriterTurn) : Type 0 where
   pub bare : IsBare p r i
   pub last : writer_deeds p g w steps ≡ HadTurn turn ∷ before
   pub closing : turn.closing ≡ true
   pub came : CameLast (arrivals_at p.config r i (first_number_of p.config g w) steps) (row_cut (meta_of p r i) turn.row)
 
--- Of what came to the reader in all of these steps, none behind the steps with which they begin is another key frame than one with this row.
+-- Of what came to the reader in all of these steps, none after the steps with which they begin is another key frame than one with this row.
 abbrev pub NoOtherBehind : Plan → ℕ → ℕ → ℕ → ℕ → List Step → List Step → List DataValue → Type 0
 NoOtherBehind p r i g w steps here row =
     (newer : List Arrival)
     → (let arrived = arrivals_at p.config r i (first_number_of p.config g w) in arrived steps ≡ newer ++ arrived here)
     → NoOtherKeys row newer
 
--- The datagram came in these pumps, with which the steps end, at a moment behind which no other key frame than one with this row came to the reader.
+-- The datagram came in these pumps, with which the steps end, at a moment after which no other key frame than one with this row came to the reader.
 pub record CameQuietly (p : Plan) (r i g w : ℕ) (pumps : List (List Entry)) (start : List Step) (row : List DataValue) (datagram : List ℕ) : Type 0 where
   pub later : List (List Entry)
   pub before : List (List Entry)
@@ -65,14 +65,14 @@ pub record CameQuietly (p : Plan) (r i g w : ℕ) (pumps : List (List Entry)) (s
   pub is : pumps ≡ later ++ (first ++ Got datagram ∷ behind) ∷ before
   pub quiet : NoOtherBehind p r i g w (map Pump pumps ++ start) (Pump (first ++ Got datagram ∷ []) ∷ map Pump before ++ start) row
 
--- Behind no moment of these pumps, with which the steps end, by which all has come in them did another key frame than one with this row come to the reader.
+-- After no moment of these pumps, with which the steps end, by which all has come in them did another key frame than one with this row come to the reader.
 abbrev pub NoOtherOnceAll : Plan → ℕ → ℕ → ℕ → ℕ → List (List Entry) → List Step → (List (List Entry) → Type 0) → List DataValue → Type 0
 NoOtherOnceAll p r i g w pumps start HasAllCome row =
     (later before : List (List Entry)) (first behind : List Entry) → pumps ≡ later ++ (first ++ behind) ∷ before → HasAllCome (first ∷ before)
     → NoOtherBehind p r i g w (map Pump pumps ++ start) (Pump first ∷ map Pump before ++ start) row
 
 -- The writer had a closing turn in the last one of its group, and each datagram of that with a part for the reader came in the pumps that the steps end with,
--- with no chunk for it, at a moment behind which no other key frame came: to a read group that isn't secured, whose reader has no numbering. Without `whole` a
+-- with no chunk for it, at a moment after which no other key frame came: to a read group that isn't secured, whose reader has no numbering. Without `whole` a
 -- chunk that comes again, once its message came, would bring nothing, whatever key frame came between.
 pub record ClosingGotLast (p : Plan) (r i g w : ℕ) (steps : List Step) (before : List GroupDeed) (turn : GroupTurn) (own : WriterTurn) : Type 0 where
   pub bare : IsBare p r i
@@ -98,7 +98,7 @@ abbrev pub QuietOnce : {p : Plan} {r i g w : ℕ} {steps : List Step} {own : Wri
 QuietOnce {p} {r} {i} {g} {w} {steps} {own} t HasAllCome =
     NoOtherOnceAll p r i g w t.ends.pumps (ticked t) HasAllCome (row_cut (meta_of p r i) own.row)
 
--- The same whether or not the frame comes in chunks, where the pumps are all that are behind the closing tick, so that none of its chunks came before: once
+-- The same whether or not the frame comes in chunks, where the pumps are all that are after the closing tick, so that none of its chunks came before: once
 -- each of its datagrams came, no other key frame came. The read group isn't secured, or names the writer's group; nothing is asked of what it accepts.
 pub record ClosingGotSinceLast (p : Plan) (r i g w : ℕ) (steps : List Step) (own : WriterTurn) : Type 0 where
   pub bare : IsBare p r i
@@ -107,7 +107,7 @@ pub record ClosingGotSinceLast (p : Plan) (r i g w : ℕ) (steps : List Step) (o
   pub came : AllCame tick tick.ends.pumps
   pub quiet : QuietOnce tick (AllCame tick)
 
--- The same of a secured read group that may name no group: it took each of these datagrams in one of the pumps, and none of a higher token, behind which a
+-- The same of a secured read group that may name no group: it took each of these datagrams in one of the pumps, and none of a higher token, after which a
 -- reader that it cuts holds nothing; and once it took all of them, no other key frame came.
 pub record ClosingTookLast (p : Plan) (r i g w : ℕ) (steps : List Step) (own : WriterTurn) : Type 0 where
   pub bare : IsBare p r i

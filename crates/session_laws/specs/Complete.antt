@@ -29,11 +29,11 @@ pub data ClosingComes (p : Plan) (r i g w : ℕ) (steps : List Step) (own : Writ
   GotSecured : ClosingGotSecured p r i g w steps own → ClosingComes p r i g w steps own
   -- a secured one took each
   Took : ClosingTook p r i g w steps own → ClosingComes p r i g w steps own
-  -- to one with no numbering, with no other key frame behind it: it came since the last cut
+  -- to one with no numbering, with no other key frame after it: it came since the last cut
   CameLast : (before : List WriterDeed) → ClosingCameLast p r i g w steps before own → ClosingComes p r i g w steps own
   -- its datagram came whole, to a read group that isn't secured
   GotLast : (before : List GroupDeed) (turn : GroupTurn) → ClosingGotLast p r i g w steps before turn own → ClosingComes p r i g w steps own
-  -- each came behind the closing tick, to a read group that isn't secured, or that names the writer's group
+  -- each came after the closing tick, to a read group that isn't secured, or that names the writer's group
   GotSinceLast : ClosingGotSinceLast p r i g w steps own → ClosingComes p r i g w steps own
   -- a secured one took each
   TookLast : ClosingTookLast p r i g w steps own → ClosingComes p r i g w steps own

@@ -5,7 +5,7 @@ use Rattle.writer_group.specs.declared.sampled.Sampled.{Sampled}
 use Rattle.session_model.specs.Sends.{sends_of}
 use Rattle.session_model.specs.Steps.{Plan, Step, Tick, Pump}
 
--- that each send of a tick behind these steps is done
+-- that each send of a tick after these steps is done
 abbrev pub all_done : Plan → ℕ → Bool → List Sampled → List Step → List Bool
 all_done p ms closing samples before = map (λ send. true) (sends_of p (Tick ms closing samples [] ∷ before))
 

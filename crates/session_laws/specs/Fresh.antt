@@ -28,7 +28,7 @@ protected_by p k steps = protected_in p.config k (deeds p steps)
 
 -- ---- the turns of a writer under each token
 
--- the token under which a key group protects behind these deeds
+-- the token under which a key group protects after these deeds
 abbrev pub token_after : Config → ℕ → List Deed → ℕ
 token_after config k deeds = (sender_after config k deeds).keys.token
 
@@ -64,7 +64,7 @@ BeginWithKeys [] = ⊤
 BeginWithKeys (turn ∷ before) =
     (All (λ earlier. earlier.token ≢ turn.token) before → is_key turn.answered ≡ true) × BeginWithKeys before
 
--- the turn of the writer w of the group g, behind this past of the group, is answered by its row whole, at the writer's next place
+-- the turn of the writer w of the group g, after this past of the group, is answered by its row whole, at the writer's next place
 abbrev pub IsAnsweredWhole : Config → List GroupDeed → ℕ → ℕ → WriterTurn → Type 0
 IsAnsweredWhole config past g w turn =
     let s = settings_at (group_at config g) w in

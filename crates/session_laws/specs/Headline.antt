@@ -54,7 +54,7 @@ pub record IsPublished (p : Plan) (r i g w : ℕ) (steps : List Step) (rows : �
 
 -- ---- published rows
 
--- a turn behind these deeds, with its answer
+-- a turn after these deeds, with its answer
 abbrev pub answered_turn : Settings → List WriterDeed → WriterTurn → Answered
 answered_turn s before turn = record { turn = turn; answer = answer s (is_fresh before) (cadence s before) turn }
 

@@ -60,7 +60,7 @@ pub record HasCome (p : Plan) (r i g w : ℕ) (steps : List Step) (place : ℕ) 
   pub stands : place_in item ≡ place
 
 -- The last turn of the writer was a closing one, and its frame came to the reader, which goes by numbers, since its last cut: at whatever place in a pump, however
--- often, and whatever came before or behind it.
+-- often, and whatever came before or after it.
 pub record ClosingCame (p : Plan) (r i g w : ℕ) (steps : List Step) (before : List WriterDeed) (turn : WriterTurn) : Type 0 where
   pub numbered : (seat_at (setting_of p.config r).seats i).part.numbering ≡ words.Message
   pub last : writer_deeds p g w steps ≡ HadTurn turn ∷ before
@@ -82,7 +82,7 @@ CameIn (entries ∷ before) datagram = Contains entries (Got datagram) ⊎ CameI
 abbrev pub EachPart : Plan → ℕ → ℕ → List (List ℕ) → (List ℕ → Type 0) → Type 0
 EachPart p r i made P = (datagram : List ℕ) → Contains made datagram → HasPartFor (setting_of p.config r) i datagram → P datagram
 
--- The turn of its group was a closing one for the writer, and the steps end with pumps behind these, in which the read group is Operational and its reader enabled.
+-- The turn of its group was a closing one for the writer, and the steps end with pumps after these, in which the read group is Operational and its reader enabled.
 pub record ClosesBefore (p : Plan) (r i w : ℕ) (steps start : List Step) (turn : GroupTurn) (own : WriterTurn) : Type 0 where
   pub took : took_by w turn ≡ Some own
   pub closing : own.closing ≡ true
@@ -101,7 +101,7 @@ pub record ClosingGot (p : Plan) (r i g w : ℕ) (steps : List Step) (before : L
   pub ends : ClosesBefore p r i w steps start turn own
   pub came : EachPart p r i turn.made (CameIn ends.pumps)
 
--- the turn of a group in a closing tick behind these steps, and what the publisher did before it
+-- the turn of a group in a closing tick after these steps, and what the publisher did before it
 abbrev pub closing_deeds : Plan → List Step → ℕ → List Sampled → ℕ → List Deed
 closing_deeds p start ms samples g = deeds_before p start (moment_of start + ms) true samples g
 
@@ -139,7 +139,7 @@ pub record ClosingGotSecured (p : Plan) (r i g w : ℕ) (steps : List Step) (own
   pub tick : ClosesInTick p r i g w steps own
   pub came : EachPart p r i (made_in tick) (CameIn tick.ends.pumps)
 
--- the datagram came in one of these pumps behind these steps, and the read group took it there
+-- the datagram came in one of these pumps after these steps, and the read group took it there
 pub record TookIn (p : Plan) (r : ℕ) (pumps : List (List Entry)) (start : List Step) (datagram : List ℕ) : Type 0 where
   pub later : List (List Entry)
   pub before : List (List Entry)

@@ -31,6 +31,6 @@ noisy_session = Pump noisy_receives ∷ tick_on []
 abbrev pub signed_noise : List Entry
 signed_noise = noise ++ Got (small_datagram_with 0 8) ∷ []
 
--- the closing tick of the three groups, all of whose datagrams come behind that
+-- the closing tick of the three groups, all of whose datagrams come after that
 abbrev pub noisy_three_session : List Step
 noisy_three_session = let sent = sent_on three_plan 0 true (ones ∷ []) [] in Pump (signed_noise ++ all_got three_plan sent) ∷ sent

@@ -30,7 +30,7 @@ deeds_in_life p g w life = writer_past w (group_past p.config g (account_in p li
 abbrev pub protected_in_life : Plan → ℕ → List Lived → List (List ℕ)
 protected_in_life p k life = protected_in p.config k (account_in p life).deeds
 
--- the token under which it protects behind the life
+-- the token under which it protects after the life
 abbrev pub token_in_life : Plan → ℕ → List Lived → ℕ
 token_in_life p k life = token_after p.config k (account_in p life).deeds
 

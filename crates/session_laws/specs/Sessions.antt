@@ -24,7 +24,7 @@ pasts_at p steps g = group_past p.config g (deeds p steps)
 
 -- ---- what may come
 
--- The read group is Operational behind these steps, and takes the datagram behind the first receives of a pump.
+-- The read group is Operational after these steps, and takes the datagram after the first receives of a pump.
 pub record Takes (p : Plan) (r : ℕ) (before : List Step) (first : List Entry) (datagram : List ℕ) : Type 0 where
   pub operational : receives p.config before r ≡ true
   pub opened : Opened

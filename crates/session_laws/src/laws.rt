@@ -132,19 +132,19 @@ pub fn a_key_frame_that_comes_last_is_held()
 /// matched reader that goes by numbers, since its last cut, the reader holds the turn's version: the version's row, cut to its
 /// fields, at the number of the last place in the writer's log, where this version stands; and this is the version that the
 /// closing tick sampled of the writer's data set. It does so at whatever place of a pump the frame came, however often, and
-/// whatever came before or behind it (`came`). It came where, without security, each datagram of the turn with a part for the
-/// reader is one that the journal has as received in the pumps behind it, in which read group and reader were enabled and
+/// whatever came before or after it (`came`). It came where, without security, each datagram of the turn with a part for the
+/// reader is one that the journal has as received in the pumps after it, in which read group and reader were enabled and
 /// operational, whole or in chunks, in whichever order (`received`). It came likewise to a secured read group that names the
 /// writer's group, whatever the read group has accepted before (`secured`); to one that names none where this took each of its
 /// datagrams once, and none of a higher token (`taken`).
 ///
 /// A reader with no numbering holds the row of this version, cut to its fields, where the frame came since its last cut,
-/// and no other key frame behind it (`came_last`). It came so, whole or in chunks, where the pumps are all that are behind the
+/// and no other key frame after it (`came_last`). It came so, whole or in chunks, where the pumps are all that are after the
 /// closing tick, and no other key frame came once all of its datagrams had come, to a read group that isn't secured, or that
 /// names the writer's group (`since_last`); to a secured one that may name no group where this took each of its datagrams, and
 /// none of a higher token, and no other key frame came once it had taken all of them (`taken_last`). Without security the
-/// datagram of a frame that isn't cut may come in pumps that begin anywhere behind the turn, and it is enough that no other key
-/// frame came behind one of its comings (`received_last`): a chunk that comes again brings nothing.
+/// datagram of a frame that isn't cut may come in pumps that begin anywhere after the turn, and it is enough that no other key
+/// frame came after one of its comings (`received_last`): a chunk that comes again brings nothing.
 ///
 /// The version of each closing turn is the one that the closing tick sampled of the writer's data set (`sampled`).
 pub fn a_closing_frame_that_came_is_held()

@@ -14,7 +14,7 @@ use group_laws::{the_built_in_groups_are_matched, the_premises_of_turns_are_met}
 use ps_config::{an_accepted_configuration_is_sound, the_built_in_configuration_is_sound};
 
 /// To a session of the built-in configuration come random bytes, datagrams of another publisher and of another version of UADP,
-/// before and behind the one that was sent. It meets the headline's premises, though its link isn't honest, and the reader holds
+/// before and after the one that was sent. It meets the headline's premises, though its link isn't honest, and the reader holds
 /// the row. So does a session of a signed group, to which besides a datagram of its reader's publisher, group and writer comes
 /// without a signature: the reader holds the closing row.
 pub fn readers_hold_on_in_noise()

@@ -152,7 +152,7 @@ works config before deeds component = is_operational (state_of (turn_flags confi
 abbrev pub writers_on : Config → List Step → List Deed → ℕ → List Bool
 writers_on config before deeds g = map (λ w. works config before deeds (Writer g w)) (writer_indexes (group_at config g))
 
--- what a group's turn is given at a tick behind these steps, once the publisher did these deeds
+-- what a group's turn is given at a tick after these steps, once the publisher did these deeds
 abbrev pub turn_input : Plan → List Step → ℕ → Bool → List Sampled → List Deed → ℕ → TurnInput
 turn_input p before now closing samples deeds g = record {
   told = told_of now closing (metas_at p.config before) (rows_at p before samples);

@@ -78,7 +78,7 @@ abbrev pub stores_after : Config → List Step → Step → Account → ℕ → 
 stores_after config before step a r i =
     stored_on (seat_at (setting_of config r).seats i).part.numbering (a.stores r i) (held_by (member_at (reading_after config before step a r).value.members i))
 
--- what became of a session with a step behind these
+-- what became of a session with a step after these
 abbrev pub stepped : Plan → List Step → Account → Step → Account
 stepped p before a (Enable id) = record a { deeds = RefreshedBelow (component_at p.config id) ∷ a.deeds }
 stepped p before a (Disable id) = record a { readings = reading_after p.config before (Disable id) a }
@@ -175,7 +175,7 @@ is_ready_by readings (Writer g w) = true
 is_ready_by readings (ReadGroup r) = true
 is_ready_by readings (Reader r i) = ready_in readings r i
 
--- which flags a component has behind these steps of a life with this account
+-- which flags a component has after these steps of a life with this account
 abbrev pub flags_by : Config → List Step → Account → Component → Flags
 flags_by config steps a component =
     record { enabled = is_on config steps component; fault = has_fault_by config a component; ready = is_ready_by a.readings component }

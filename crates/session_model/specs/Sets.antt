@@ -33,7 +33,7 @@ abbrev pub rows_cut : List MetaData → List MetaData → List Sampled → List 
 rows_cut metas full samples =
     map (λ set. cut_sample (meta_in metas set) (meta_in full set) (slice_index_or samples set no_sample)) (range_with_len 0 (length metas))
 
--- the rows that a tick's writers are given, behind these steps
+-- the rows that a tick's writers are given, after these steps
 abbrev pub rows_at : Plan → List Step → List Sampled → List Sampled
 rows_at p before samples = rows_cut (metas_at p.config before) p.full samples
 

@@ -18,7 +18,7 @@ pub record HoldsTurn (config : Config) (part : GroupPart) (past : List GroupDeed
   pub answers : (writer : ℕ) → IsFrameIf (writer_at part writer) (meta_at part input.told.metas writer) (answer_by part past input writer)
   pub few : length (turn_datagrams config part past input) ≤ most_datagrams
 
--- the turn of a group at a tick behind these steps, once the publisher did these deeds, if the group has one
+-- the turn of a group at a tick after these steps, once the publisher did these deeds, if the group has one
 abbrev pub HoldsIfTurned : Plan → List Step → ℕ → Bool → List Sampled → List Deed → ℕ → Type 0
 HoldsIfTurned p before now closing samples so_far g =
     has_turn p before now closing so_far g ≡ true

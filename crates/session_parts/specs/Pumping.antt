@@ -35,7 +35,7 @@ IsReceive Empty = Unit {0}
 IsReceive (Long size) = longest_datagram < size
 IsReceive ReceiveFailed = Unit {0}
 
--- what an entry brings a read group in a pump behind these steps
+-- what an entry brings a read group in a pump after these steps
 abbrev pub brought : Config → List Step → Entry → ℕ → List Event → List Event
 brought config before entry r befell =
     if receives config before r then got_on (moment_of before) (readers_on config before r) befell entry else befell

@@ -38,7 +38,7 @@ use Rattle.reader_group.specs.Settings.{no_keygroup}
 use Rattle.session_parts.specs.Holding.{HoldPublisher, MayAllGoOn}
 use Rattle.session_parts.specs.Standing.{HavePast, HaveSent, IsOfGroup, AreSendsIn, HasFlags}
 
--- a tick behind these steps, of which this became
+-- a tick after these steps, of which this became
 pub record TickData : Type 0 where
   pub plan : Plan
   pub before : List Step
@@ -346,7 +346,7 @@ HasHalted told g old new tree link after =
     (t : TickData) (so_far : List Deed) (done : List Bool) → IsToldOf t told → IsAt t so_far done old tree
     → NoneFailedFrom g so_far done → TurnHalts t g so_far old new link after
 
--- the turn of one group halts, behind the parts of those before it
+-- the turn of one group halts, after the parts of those before it
 pub record TickHalts (t : TickData) (new : Publisher) (told after : Option LinkState) : Type 0 where
   pub group : ℕ
   pub within : group < length t.plan.config.group
@@ -372,7 +372,7 @@ pub record HaltsTickBehind (p : Plan) (before : List Step) (a : Account) (ms : �
   pub tells : TellsJournal a.journal told → (link : LinkState) → after ≡ Some link
       → link.journal ≡ a.journal ++ send_entries (tick_sends p before a ms closing samples) done
 
--- behind steps alone
+-- after steps alone
 abbrev pub HaltsTick : Plan → List Step → ℕ → Bool → List Sampled → Option LinkState → Option LinkState → Type 0
 HaltsTick p before ms closing samples told after = HaltsTickBehind p before (account_of p before) ms closing samples told after
 

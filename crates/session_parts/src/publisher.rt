@@ -199,7 +199,7 @@ impl Publisher {
     }
 
     /// The parts of all groups in a tick, in order, once the senders came to its moment. Want of memory comes from a send of
-    /// the link alone, and ends the tick there: the groups behind have no turn.
+    /// the link alone, and ends the tick there: the groups after have no turn.
     pub fn pass_all<L: Link>(&mut self, told: &Told<'_>, tree: &mut Tree, link: &mut L) -> Ticked
         requires open { IsSome (L.opened_with link.old) }
         requires may { MayPassAll told.now self.old tree.old }
@@ -226,7 +226,7 @@ impl Publisher {
 
     /// The part of one group in a tick (OPC 10000-14 6.2.6, PublishingInterval): its turn, if it has one, and one send of each
     /// datagram of it, in order; then the tree is told of faults. A send that fails is counted, and the next datagram is sent
-    /// all the same. Want of memory comes from a send of the link alone; the datagrams behind it aren't sent.
+    /// all the same. Want of memory comes from a send of the link alone; the datagrams after it aren't sent.
     fn pass<L: Link>(&mut self, told: &Told<'_>, g: usize, tree: &mut Tree, link: &mut L) -> Ticked
         requires open { IsSome (L.opened_with link.old) }
         requires may { MayPass told.now g self.old tree.old }

@@ -14,7 +14,7 @@ use std::process::Abort;
 use std::test::Fail;
 use ua_base::Link;
 
-/// What the getters tell behind a tick of a gateway that publishes the opening row.
+/// What the getters tell after a tick of a gateway that publishes the opening row.
 fn behind(moment: u64, standing: (u32, u32), taken: u64, unknown: u64, number: u16) -> Expected {
     Expected {
         moment,
@@ -57,7 +57,7 @@ fn goes_on<R: Abort, L: Link>(
     end(rt, outlet, link, behind(400, (7, 2), 4, 1, 4))
 }
 
-/// Four rounds, and a ring behind each of the first three, which are those of the session's test.
+/// Four rounds, and a ring after each of the first three, which are those of the session's test.
 fn rounds<R: Abort, L: Link>(rt: &R, outlet: &mut Outlet<'_>, link: &mut L) -> Result<(), Fail>
     requires outlet { IsOutlet outlet.old }
     requires open { IsSome (L.opened_with link.old) }

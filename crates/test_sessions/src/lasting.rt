@@ -14,7 +14,7 @@ use std::process::Abort;
 use std::sync::Wait;
 use std::test::Fail;
 
-/// Behind the closing tick, which is the second, takes no time and sends the row once more: the message has the next number, so it is
+/// After the closing tick, which is the second, takes no time and sends the row once more: the message has the next number, so it is
 /// stored again.
 const LAST: Expected = Expected {
     moment: 100,

@@ -18,7 +18,7 @@ use std::sync::Wait;
 use std::test::Fail;
 use ua_base::{Fate, Link, Opened};
 
-/// Behind the first tick: the first datagram under the configured token, 5, was taken.
+/// After the first tick: the first datagram under the configured token, 5, was taken.
 pub(crate) const FIRST: Expected = Expected {
     moment: 100,
     standing: (5, 1),
@@ -32,7 +32,7 @@ pub(crate) const FIRST: Expected = Expected {
     stores: 1,
 };
 
-/// Behind the second: a datagram was sent under a token that the read group's ring hasn't, so the reader holds what it held.
+/// After the second: a datagram was sent under a token that the read group's ring hasn't, so the reader holds what it held.
 const WITHOUT: Expected = Expected {
     moment: 200,
     standing: (5, 2),
@@ -46,7 +46,7 @@ const WITHOUT: Expected = Expected {
     stores: 1,
 };
 
-/// Behind the third: the ring has the token again, and the key frame is held.
+/// After the third: the ring has the token again, and the key frame is held.
 const AGAIN: Expected = Expected {
     moment: 300,
     standing: (5, 3),
@@ -60,7 +60,7 @@ const AGAIN: Expected = Expected {
     stores: 2,
 };
 
-/// Behind the fourth: a later token of the ring has come, under which numbers begin anew. Its first datagram is held up.
+/// After the fourth: a later token of the ring has come, under which numbers begin anew. Its first datagram is held up.
 const LATER: Expected = Expected {
     moment: 400,
     standing: (7, 1),
@@ -74,8 +74,8 @@ const LATER: Expected = Expected {
     stores: 2,
 };
 
-/// Behind the closing one, which takes no time and sends the row once more. That datagram comes first, and so the message of the one
-/// that was held up, which comes behind it, is passed over.
+/// After the closing one, which takes no time and sends the row once more. That datagram comes first, and so the message of the one
+/// that was held up, which comes after it, is passed over.
 const LAST: Expected = Expected {
     moment: 400,
     standing: (7, 2),
@@ -114,7 +114,7 @@ fn goes_on<R: Wait + Abort, L: Link>(
     closes(rt, &closed, LAST)
 }
 
-/// Four rounds, and a ring behind each of the first three.
+/// Four rounds, and a ring after each of the first three.
 fn rounds<R: Wait + Abort, L: Link>(
     rt: &R,
     device: &mut Device<'_>,

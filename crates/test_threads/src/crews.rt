@@ -153,7 +153,7 @@ fn demand_order(rt: &impl Abort, order: &Order, list: u32) {
     }
 }
 
-// The looks don't fall, and come between the two calls of the gate, behind both writes. Tells whether a store came meanwhile.
+// The looks don't fall, and come between the two calls of the gate, after both writes. Tells whether a store came meanwhile.
 fn demand_looks(rt: &impl Abort, order: &Order, done: &Done) -> bool {
     assert_eq!(rt; done.looks.as_slice().len(), 1);
     let counts = done.looks.as_slice()[0].counts.as_slice();

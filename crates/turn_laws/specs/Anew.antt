@@ -16,7 +16,7 @@ keyed_turns_in p k g w life = keyed_turns p.config k g w (account_in p life).dee
 abbrev pub answered_in : Plan → ℕ → ℕ → List Lived → List Answered
 answered_in p g w life = answered_by (group_at p.config g) w (group_past p.config g (account_in p life).deeds)
 
--- the writer is one of the group, whose key group has another token once a tick behind this life comes to its moment, so many milliseconds later
+-- the writer is one of the group, whose key group has another token once a tick after this life comes to its moment, so many milliseconds later
 pub record IsRekeyedBy (p : Plan) (g w : ℕ) (before : List Lived) (ms : ℕ) : Type 0 where
   pub there : g < length p.config.group
   pub within : w < length (group_at p.config g).writer

@@ -110,7 +110,7 @@ SignedAreMadeIn m p r way (Renewed keygroup sets ∷ before) = SignedAreMadeIn m
 
 -- ---- the link
 
--- the read group is Operational behind this life, and takes the datagram behind the first receives of a pump, with the keys that it has then
+-- the read group is Operational after this life, and takes the datagram after the first receives of a pump, with the keys that it has then
 pub record TakesIn (p : Plan) (r : ℕ) (before : List Lived) (first : List Entry) (datagram : List ℕ) : Type 0 where
   pub operational : receives p.config (steps_in before) r ≡ true
   pub opened : Opened
@@ -129,7 +129,7 @@ abbrev pub AreSentIfSigned : List TokenKeys → List Entry → List Entry → Ty
 AreSentIfSigned keys before entries =
     (datagram : List ℕ) → Contains entries (link.Got datagram) → IsSignedBy keys datagram → Contains before (link.Sent datagram)
 
--- so in a pump, behind a session with this account, of the keys that the read group has then
+-- so in a pump, after a session with this account, of the keys that the read group has then
 abbrev pub IsHonestOn : Account → ℕ → Step → Type 0
 IsHonestOn a r (Enable id) = ⊤
 IsHonestOn a r (Disable id) = ⊤
@@ -214,7 +214,7 @@ between_life = Stepped (Pump (all_got three_plan three_sent)) ∷ Renewed 0 late
 
 -- ---- a witness with a tick under a ring's token
 
--- what a tick behind this life sends
+-- what a tick after this life sends
 abbrev pub sends_behind : Plan → ℕ → Bool → List Sampled → List Lived → List Send
 sends_behind p ms closing samples before =
     last_sends (tick_deeds p (steps_in before) (moment_of (steps_in before) + ms) closing samples (account_in p before).deeds)

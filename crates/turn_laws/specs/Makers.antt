@@ -38,7 +38,7 @@ pub record IsWriterUnder (config : Config) (k g w : ℕ) : Type 0 where
   pub within : w < length (group_at config g).writer
   pub keyed : (group_at config g).keygroup ≡ Some k
 
--- the sender behind these uses
+-- the sender after these uses
 abbrev pub sender_by : SenderState → List SenderUse → SenderState
 sender_by s [] = s
 sender_by s (Moved now ∷ uses) = sender_by (turned s now) uses

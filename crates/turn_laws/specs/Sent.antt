@@ -11,7 +11,7 @@ use Rattle.session_laws.specs.Fresh.{token_after}
 
 -- ---- a turn
 
--- the numbers behind the last one used, one for each of so many datagrams, each with this place
+-- the numbers after the last one used, one for each of so many datagrams, each with this place
 abbrev pub numbered_on : ℕ → ℕ → ℕ → List (ℕ × ℕ) → List (ℕ × ℕ)
 numbered_on used place zero before = before
 numbered_on used place (suc count) before = (used + suc count, place) ∷ numbered_on used place count before

@@ -40,7 +40,7 @@ pub fn numbers_of_a_group_rise_with_places()
 
 /// So do the numbers that the sender of a key group gives under each token, whichever of the key group's groups have turns in between
 /// and whichever moments it comes to: in a session of however many ticks (`session`), in a life with whichever rings (`life`), and
-/// behind any deeds whose turns are those of the definitions (`any`). Numbers that rise so name the places: in a datagram that was
+/// after any deeds whose turns are those of the definitions (`any`). Numbers that rise so name the places: in a datagram that was
 /// sent, its token and number and the 16 bits of the place tell it (`names`, `numbers`); in a session of fewer than 65,536 ticks the
 /// 16 bits alone do, from the writer's first number on (`first`).
 pub fn numbers_rise_with_places_over_all_turns()
@@ -102,7 +102,7 @@ pub fn what_is_taken_came_signed()
 /// (`made`). It is said for a reader that is matched to the writer and goes by numbers, whose 16 bits stand for the places that were
 /// sent. Such are those of a session of however many ticks, whose turns hold, and in which the read group takes nothing but what was
 /// sent (`session`). So such a reader is what *Arrivals* and *Records* say, with no premise on what a sender made, however many turns
-/// there were, where the places of its chunks are near: behind any deeds, if besides each cut by hand is a restart and each number
+/// there were, where the places of its chunks are near: after any deeds, if besides each cut by hand is a restart and each number
 /// stands for a place with its 16 bits (`records`), and in a session, which cuts so alone (`session_records`). Each item that comes to
 /// the reader is an answer of the writer, at its place and cut to the reader's fields, however many data frames it sent (`comes`).
 /// Of what the read group refuses nothing is asked.

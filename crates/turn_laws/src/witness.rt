@@ -20,7 +20,7 @@ use session_laws::{
     sessions_of_each_kind_meet_the_premises,
 };
 
-/// A link is honest where nothing came yet, and behind each tick whose sends are all done and a pump that gets all of them: so with
+/// A link is honest where nothing came yet, and after each tick whose sends are all done and a pump that gets all of them: so with
 /// `what_is_sent_can_come` there are signed sessions of more and more turns. The session of a signed group, a fixed one and one
 /// whose frames come in two chunks is one, for the reader of the signed group.
 pub fn signed_sessions_meet_the_premises()
@@ -35,8 +35,8 @@ pub fn signed_sessions_meet_the_premises()
 }
 
 /// Lives of the three groups are such for the reader of the signed group. In one a ring with the key of the configuration and a later
-/// one renews the key group behind the closing tick, before the pump gets all that the tick sent (`between`). In the other it does so
-/// behind a tick at a second, and the closing tick is under the ring's later key: all that both send comes (`ringed`, `honest`), and
+/// one renews the key group after the closing tick, before the pump gets all that the tick sent (`between`). In the other it does so
+/// after a tick at a second, and the closing tick is under the ring's later key: all that both send comes (`ringed`, `honest`), and
 /// their samples are rows of one history (`steps`, `rise`, `versions`). The signed group's writer had a turn under the configuration's token and then one under the ring's (`tokens`), to which that tick changed (`rekeyed`).
 pub fn a_renewed_life_meets_the_premises()
     ensures between { IsSignedLife most_ticks three_plan 0 0 0 0 0 between_life }

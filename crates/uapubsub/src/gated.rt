@@ -176,7 +176,7 @@ fn each_tick_samples_what_is_written_by_then(rt: HostRuntime) -> Result<(), Fail
 }
 
 /// The same, and the first watch is made between the first tick and the second, the next between the fourth and the last, and the
-/// third behind that.
+/// third after that.
 fn holds_with_watches(alloc: Global) -> Result<Vec<(Item, Until)>, Fail> {
     let mut holds = holds_in_step(alloc)?;
     for (watch, tick, next) in [(0u32, 0u32, 1u32), (1, 3, 4), (2, 4, 5)] {
@@ -186,7 +186,7 @@ fn holds_with_watches(alloc: Global) -> Result<Vec<(Item, Until)>, Fail> {
     Ok(holds)
 }
 
-/// A tick is sampled, sent and received before the gate is called behind it, and each look counts what was received by then.
+/// A tick is sampled, sent and received before the gate is called after it, and each look counts what was received by then.
 #[test]
 fn each_look_counts_the_ticks_before_it(rt: HostRuntime) -> Result<(), Fail> {
     let order = Order::new(rt.alloc(), holds_with_watches(rt.alloc())?)?;
@@ -201,7 +201,7 @@ fn each_look_counts_the_ticks_before_it(rt: HostRuntime) -> Result<(), Fail> {
     Ok(())
 }
 
-/// Each tick is held until both threads' write of its number and the watch behind the tick before are answered, and each write and watch
+/// Each tick is held until both threads' write of its number and the watch after the tick before are answered, and each write and watch
 /// until the tick before it is done.
 fn holds_of_two(alloc: Global) -> Result<Vec<(Item, Until)>, Fail> {
     let mut holds = Vec::new(alloc);
@@ -236,7 +236,7 @@ fn each_data_set_and_reader_is_looked_at_anew(rt: HostRuntime) -> Result<(), Fai
     Ok(())
 }
 
-/// Two threads and the publisher meet, and each thread's last look is behind the last tick.
+/// Two threads and the publisher meet, and each thread's last look is after the last tick.
 fn holds_of_looks(alloc: Global) -> Result<Vec<(Item, Until)>, Fail> {
     let mut holds = Vec::new(alloc);
     holds.push((item(1, 0), Until::Came(item(2, 0))))?;

@@ -7,7 +7,7 @@ use std::sync::Wait;
 use std::test::Fail;
 use std::thread::Threads;
 
-/// The runs. The first line of each has the words; the file `s`, and behind ` | ` each the files `c` and `d`, in which a slash is a
+/// The runs. The first line of each has the words; the file `s`, and after ` | ` each the files `c` and `d`, in which a slash is a
 /// line feed; the calls that fail, by their numbers from 0; and what the run shows. Below stands what it leaves: the output, the
 /// status, and the error output in brackets.
 const RUNS: &str = "play s; write 0 demo a=7/tick 100/; none; a report

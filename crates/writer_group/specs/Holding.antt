@@ -63,7 +63,7 @@ spelled_at bytes frame = record {
 abbrev pub all_spelled : List ℕ → List SpelledFrame → List Spelled
 all_spelled bytes frames = map (spelled_at bytes) frames
 
--- the frames that are kept, their sizes and their ids; behind these stand earlier ones
+-- the frames that are kept, their sizes and their ids; after these stand earlier ones
 abbrev pub listed : Frames → List SpelledFrame
 listed frames = take frames.count frames.list
 
@@ -76,7 +76,7 @@ listed_ids frames = take (2 * frames.count) frames.ids
 abbrev pub frames_at : List ℕ → Frames → List Spelled
 frames_at bytes frames = all_spelled bytes (listed frames)
 
--- the bytes of frames one behind another
+-- the bytes of frames one after another
 abbrev pub all_bytes : List ℕ → List SpelledFrame → List ℕ
 all_bytes bytes frames = flat_map (λ frame. (spelled_at bytes frame).bytes) frames
 
@@ -87,7 +87,7 @@ pub record IsWithin (end : ℕ) (frame : SpelledFrame) : Type 0 where
 abbrev pub id_bytes : List Spelled → List ℕ
 id_bytes frames = flat_map (to_le_bytes w16) (map (λ frame. frame.id) frames)
 
--- they stand one behind another, the first from this byte on, and the last up to that one
+-- they stand one after another, the first from this byte on, and the last up to that one
 abbrev pub StandFrom : ℕ → List SpelledFrame → ℕ → Type 0
 StandFrom start [] end = start ≡ end
 StandFrom start (frame ∷ frames) end = (frame.start ≡ start) × StandFrom frame.end frames end
@@ -148,7 +148,7 @@ payload_in cargo (loads.Frames first count) = frames_payload (take count (drop f
 payload_in cargo (loads.Chunk frame index) = chunk_load cargo.room (frame_at cargo frame) index
 payload_in cargo loads.Slots = slots_payload cargo
 
--- what stands behind the header of the datagram with this load
+-- what stands after the header of the datagram with this load
 abbrev pub payload_by : Cargo → Load → List ℕ
 payload_by cargo load = (payload_in (cargo_in cargo) load).1
 
@@ -156,11 +156,11 @@ payload_by cargo load = (payload_in (cargo_in cargo) load).1
 abbrev pub payloads_in : Cargo → List Load → List Payload
 payloads_in cargo loads = map (payload_in (cargo_in cargo)) loads
 
--- what stands behind the header of a datagram with so many frames, from the one with this index on
+-- what stands after the header of a datagram with so many frames, from the one with this index on
 abbrev pub frames_by : Cargo → ℕ → ℕ → List ℕ
 frames_by cargo first count = (frames_payload (take count (drop first (cargo_in cargo).frames))).1
 
--- what stands behind the header of a datagram with this chunk of this frame
+-- what stands after the header of a datagram with this chunk of this frame
 abbrev pub chunk_by : Cargo → ℕ → ℕ → List ℕ
 chunk_by cargo frame index = (chunk_load cargo.room (frame_at (cargo_in cargo) frame) index).1
 
@@ -168,6 +168,6 @@ chunk_by cargo frame index = (chunk_load cargo.room (frame_at (cargo_in cargo) f
 abbrev pub header_text : Header → List ℕ
 header_text header = header_bytes (header_in header)
 
--- the pen has room for a header and what stands behind it
+-- the pen has room for a header and what stands after it
 abbrev pub HasRoom : Pen → List ℕ → List ℕ → Type 0
 HasRoom pen header payload = pen.at + length header + length payload ≤ length pen.bytes.now

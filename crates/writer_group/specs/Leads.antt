@@ -17,7 +17,7 @@ lead_bytes h =
     flags_bytes h ++ optional publisher_bytes h.publisher ++ optional (λ guid. guid) h.class_id
     ++ group_flags h ∷ optional (to_le_bytes w16) h.group ++ optional (to_le_bytes w32) h.version
 
--- what stands behind that in a header without security: the numbers and the ids
+-- what stands after that in a header without security: the numbers and the ids
 abbrev pub rest_bytes : HeaderValue → List ℕ
 rest_bytes h = optional (to_le_bytes w16) h.message_number ++ optional (to_le_bytes w16) h.sequence ++ ids_bytes h.ids
 

@@ -1,7 +1,7 @@
 -- The limits of a turn.
 use Rattle.std.specs.Prelude.{ℕ}
 
--- the bytes of the buffer: those for the frames, in front, and those for the datagrams, behind them
+-- the bytes of the buffer: those for the frames, in front, and those for the datagrams, after them
 abbrev pub buffer_bytes : ℕ
 buffer_bytes = 262144
 

@@ -106,7 +106,7 @@ pub record IsPosted (config : Config) (part : GroupPart) (sender : Option Sender
   pub written : AreWritten (envelope_with config part group.made) sender 0 (map (payload_in (cargo_with config part group out)) out.loads.items)
   pub reserved : IsReserved after
 
--- the datagrams with these loads have room behind the frames in a buffer's bytes, and the sender has numbers for them
+-- the datagrams with these loads have room after the frames in a buffer's bytes, and the sender has numbers for them
 pub record MayFill (config : Config) (part : GroupPart) (sender : Option SenderState) (group : Group) (buffer : List ℕ) (frames : Frames) (loads : List Load) : Type 0 where
   pub may : MayMakeOf config part sender group (take frames_bytes buffer) frames loads
   pub long : length buffer ≡ buffer_bytes

@@ -1,4 +1,4 @@
--- Datagrams one behind another.
+-- Datagrams one after another.
 use Rattle.std.specs.Prelude.{◌≡◌, ℕ, ◌+◌, ◌≤◌, List, [], ◌∷◌, ◌++◌, length, map, All, Option, Some}
 use Rattle.uadp_header.specs.Spelling.{header_len, header_bytes}
 use Rattle.message_guard.specs.declared.mode.Mode.{Mode}
@@ -43,7 +43,7 @@ slots_header envelope =
     numbered_header envelope.publisher envelope.settings
     (record { sequence = 0; message = 0; security = security_value envelope.settings.security }) NoIds
 
--- the loads are of what the datagrams carry, slots begin behind the header, and the leads are those of the headers
+-- the loads are of what the datagrams carry, slots begin after the header, and the leads are those of the headers
 pub record MayPost (envelope : Envelope) (cargo : Cargo) (loads : List Load) : Type 0 where
   pub cargo_is : IsCargo cargo
   pub loads_are : All (IsLoad (cargo_in cargo)) loads

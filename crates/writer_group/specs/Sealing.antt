@@ -11,7 +11,7 @@ use Rattle.ps_config.specs.declared.parts.GroupPart.{GroupPart}
 use Rattle.ps_config.specs.Headers.{publisher_value, mode_of}
 use Rattle.ps_config.specs.Rooms.{header_settings}
 
--- the ids of a datagram's header, and what stands behind the header
+-- the ids of a datagram's header, and what stands after the header
 abbrev pub Payload : Type 0
 Payload = IdsValue × List ℕ
 

@@ -8,6 +8,6 @@ use Rattle.writer_group.specs.Payloads.{Spelled, in_slots}
 abbrev pub placed_all : List Slot → List ℕ → List (ℕ × List ℕ) → List ℕ
 placed_all slots datagram frames = fold (λ bytes frame. placed bytes (slot_at slots frame.0) frame.1) datagram frames
 
--- what stands behind the header of a datagram with these slots and frames
+-- what stands after the header of a datagram with these slots and frames
 abbrev pub slots_by : Slots → List Spelled → List ℕ
 slots_by slots frames = fixed_payload slots.start slots.slots (in_slots frames)

@@ -133,7 +133,7 @@ pub record IsInOrder (config : Config) (part : GroupPart) (rows : List Sampled) 
   pub left : All (λ writer. 1 ≤ writer.left) group.writers.items
   pub sender_is : IsSenderFor part sender
 
--- a turn behind these deeds: the datagrams, that none is longer than the group's largest, that their headers can be written, that what each writer answers is a
+-- a turn after these deeds: the datagrams, that none is longer than the group's largest, that their headers can be written, that what each writer answers is a
 -- frame of its data set, and where it leaves the group
 pub record HasTicked (config : Config) (part : GroupPart) (past : List GroupDeed) (input : TurnInput) (after : Group) (out : Datagrams) : Type 0 where
   pub datagrams : datagrams_in out ≡ turn_datagrams config part past input
@@ -201,7 +201,7 @@ TellsDue group now due =
     (config : Config) (part : GroupPart) (metas : ℕ → MetaData) (past : List GroupDeed) → IsMadeFor config part group
     → IsGroup metas part past group → due ≡ is_due part past now
 
--- the moment is an interval behind the last turn: it is due from then on
+-- the moment is an interval after the last turn: it is due from then on
 abbrev pub TellsDueFrom : Group → ℕ → Type 0
 TellsDueFrom group moment =
     (config : Config) (part : GroupPart) (metas : ℕ → MetaData) (past : List GroupDeed) → IsMadeFor config part group
@@ -248,7 +248,7 @@ AreRowsFrom set metas (sampled ∷ rows) = HoldsAt (λ meta. Belongs meta sample
 abbrev pub AreRowsOf : List MetaData → List Sampled → Type 0
 AreRowsOf metas rows = AreRowsFrom 0 metas rows
 
--- it had a turn, behind whichever deeds left it as it was
+-- it had a turn, after whichever deeds left it as it was
 abbrev pub HasTickedAt : Config → TurnInput → Group → Group → Datagrams → Type 0
 HasTickedAt config input old new out =
     HoldsAt (λ part. (past : List GroupDeed) → IsGroup (metas_for part input.told.metas) part past old → HasTicked config part past input new out)

@@ -150,7 +150,7 @@ frame_by group past input writer = frame_of_writer group input.told.metas past w
 abbrev pub envelope_of : Config → GroupPart → List GroupDeed → Envelope
 envelope_of config group past = envelope_with config group (made_in past)
 
--- the datagrams of a turn behind these deeds
+-- the datagrams of a turn after these deeds
 abbrev pub turn_datagrams : Config → GroupPart → List GroupDeed → TurnInput → List (List ℕ)
 turn_datagrams config group past input =
     datagrams_from (envelope_of config group past) input.sender 0 (payloads_of config group (frames_in group past input))

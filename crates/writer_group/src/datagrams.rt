@@ -19,12 +19,12 @@ const MOST_DATAGRAMS: usize = 1024;
 /// The datagrams of a group's last turn. All groups of a configuration share it, and no turn takes memory.
 #[derive(Drop)]
 pub struct Datagrams {
-    // The frames of the turn stand in front, and behind them the datagrams.
+    // The frames of the turn stand in front, and after them the datagrams.
     pub(crate) bytes: Vec<u8>,
     pub(crate) frames: Frames,
     // What each datagram carries.
     pub(crate) loads: Vec<Load>,
-    // Where each datagram stands behind the frames.
+    // Where each datagram stands after the frames.
     pub(crate) ranges: Vec<Range>,
 }
 

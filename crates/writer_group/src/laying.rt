@@ -140,7 +140,7 @@ impl<'a> Cargo<'a> {
         pen.put_bytes(&self.bytes[start..behind]);
     }
 
-    /// Where so many frames begin and end, from the one with this index on: they stand one behind another.
+    /// Where so many frames begin and end, from the one with this index on: they stand one after another.
     fn range(&self, first: usize, count: usize) -> (usize, usize)
         requires cargo { IsCargo self.now }
         requires some { 0 < count }

@@ -76,7 +76,7 @@ fn lay_whole(bytes: &mut [u8], header: &Header<'_>) -> usize
     pen.at
 }
 
-/// Writes what stands behind the lead of a header to the front of the bytes, and tells where it ends.
+/// Writes what stands after the lead of a header to the front of the bytes, and tells where it ends.
 fn lay_rest(bytes: &mut [u8], header: &Header<'_>) -> usize
     requires ids { AreIds (ids_in header.now.ids) }
     requires room { length (rest_bytes (header_in header.now)) ≤ length bytes.old }

@@ -15,7 +15,7 @@ use message_guard::Sender;
 use ps_config::{Config, GroupPart, mode_of};
 
 impl Group {
-    /// Makes the datagrams that were planned, behind the frames, without security.
+    /// Makes the datagrams that were planned, after the frames, without security.
     pub(crate) fn post(&self, config: &Config, group: &GroupPart, out: &mut Datagrams)
         requires { MayMake config.now group.now None self.now out.old }
         ensures { IsPosted config.now group.now None self.now out.old out.new }
@@ -30,7 +30,7 @@ impl Group {
         );
     }
 
-    /// Makes the datagrams that were planned, behind the frames, each protected under the sender's next number.
+    /// Makes the datagrams that were planned, after the frames, each protected under the sender's next number.
     pub(crate) fn post_sealed(
         &self,
         config: &Config,
@@ -54,7 +54,7 @@ impl Group {
         );
     }
 
-    /// Makes the datagrams of these loads behind the frames that stand in the buffer.
+    /// Makes the datagrams of these loads after the frames that stand in the buffer.
     fn make(
         &self,
         config: &Config,
@@ -86,7 +86,7 @@ impl Group {
         post_open(&parts, &cargo, loads, free, ranges);
     }
 
-    /// Makes the datagrams of these loads behind the frames that stand in the buffer, each protected by the sender.
+    /// Makes the datagrams of these loads after the frames that stand in the buffer, each protected by the sender.
     fn make_sealed(
         &self,
         config: &Config,

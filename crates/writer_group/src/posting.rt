@@ -1,4 +1,4 @@
-//! Making a turn's datagrams, one behind another.
+//! Making a turn's datagrams, one after another.
 ghost use Rattle.std.specs.Prelude.{◌≡◌, ◌<◌, ◌≤◌, ◌+◌, ◌++◌, ◌∷◌, [], true, false, IfSome, length, slice_index_or, vec_len, vec_capacity};
 ghost use Rattle.ua_binary.specs.Writing.{laid};
 ghost use Rattle.uadp_header.specs.Spelling.{IsSendersSecurity, IsWritten};

@@ -11,7 +11,7 @@ use crate::spelled::{Frames, SpelledFrame};
 use fixed_layout::Slots;
 use ua_binary::Pen;
 
-/// Writes the payload of a fixed datagram, which begins at `start`, behind its header: each frame in its writer's slot, and zeros
+/// Writes the payload of a fixed datagram, which begins at `start`, after its header: each frame in its writer's slot, and zeros
 /// elsewhere.
 #[inline(never)]
 pub(crate) fn put_slots(
@@ -41,7 +41,7 @@ pub(crate) fn put_slots(
     pen.at = end;
 }
 
-/// Lays the frames behind a header of so many bytes.
+/// Lays the frames after a header of so many bytes.
 fn lay_slots(
     datagram: &mut [u8],
     header: usize,

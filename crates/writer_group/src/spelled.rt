@@ -30,7 +30,7 @@ pub(crate) struct SpelledFrame {
     pub number: u16,
     /// Its first byte.
     pub start: usize,
-    /// The byte behind its last.
+    /// The byte after its last.
     pub end: usize,
 }
 
@@ -42,9 +42,9 @@ pub(crate) struct Frames {
     sizes: [u16; 16],
     // Their writers' ids, two bytes each.
     ids: [u8; 32],
-    // How many frames there are. What stands behind them is of earlier turns.
+    // How many frames there are. What stands after them is of earlier turns.
     count: usize,
-    /// The byte behind the last frame.
+    /// The byte after the last frame.
     pub end: usize,
     ghost few: { count ≤ 16 },
 }
@@ -94,7 +94,7 @@ impl Frames {
         &self.ids[..2 * self.count]
     }
 
-    /// Spells a frame behind the others. A call, so that the loop over writers stays short.
+    /// Spells a frame after the others. A call, so that the loop over writers stays short.
     #[inline(never)]
     pub fn spell(
         &mut self,
