@@ -22,10 +22,10 @@ abbrev pub ReadsSent : Config → Option LinkState → List Part → Type 0
 ReadsSent config told parts =
     (state : LinkState) → told ≡ Some state → parts ≡ parts_of (messages_of config (sent_list state.journal))
 
--- The script was played in a session over the link, whose Sent datagrams are the session's. Where the link tells its journal, the lines spell exactly those of its
--- Sent datagrams that can be transcoded, in their order, and the others are counted; what is read of the lines is what these datagrams have; and that is what the
--- session's writers answered, at the writers' own places. The readers' lines tell what *Records* holds over the frames that are read of the lines, none of which is
--- refused.
+-- The script was played in a session over the link, whose Sent datagrams are the session's. Where the link tells its journal, the lines
+-- spell exactly those of its Sent datagrams that can be transcoded, in their order, and the others are counted. What is read of the lines
+-- is what these datagrams have. That is what the session's writers answered, at the writers' own places. The readers' lines tell what
+-- *Records* holds over the frames that are read of the lines, none of which is refused.
 pub record IsJsonOf (config : Config) (script : Script) (told : Option LinkState) (text : List ℕ) : Type 0 where
   pub closed : Closed
   pub lines : List (List ℕ)

@@ -19,8 +19,8 @@ use std::alloc::Global;
 use std::sync::Wait;
 use ua_base::{Folder, Link, Sink};
 
-/// Plays the script of this name over the link, for a session with the configuration of this name or the built-in one, and writes
-/// each data message that is sent in the JSON mapping, what the matched readers of unsecured read groups in a dynamic layout hold of
+/// Plays the script of this name over the link, for a session with the configuration of this name or the built-in one. Writes each
+/// data message that is sent in the JSON mapping, what the matched readers of unsecured read groups in a dynamic layout hold of
 /// these messages, and how many there are.
 pub fn json<'w, R: Wait, F: Folder, A: Link, K: Sink>(
     rt: &R,

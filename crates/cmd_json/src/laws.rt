@@ -21,8 +21,8 @@ pub fn matched_readers_are_told()
     ensures { (config : Config) → IsToldIfMatched config }
 {}
 
-/// What is read of what a session sent over a link that tells it is, of each writer of an unsecured group in a dynamic layout, what
-/// this writer answered at its turns, with the numbers of the places that it gave; and what a reader that is matched to the writer
+/// What is read of what a session sent over a link that tells it is what its writers answered: of each writer of an unsecured group
+/// in a dynamic layout, at its turns, with the numbers of the places that it gave. What a reader that is matched to the writer
 /// keeps of it is what *Records* says of just these answers, at these places.
 pub fn lines_have_their_writers_frames()
     ensures { (p : Plan) (steps : List Step) (told : Option LinkState) (parts : List Part)

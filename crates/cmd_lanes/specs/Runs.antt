@@ -15,10 +15,10 @@ use Rattle.cmd_lanes.specs.Scripts.{refusal, ticks_of}
 use Rattle.cmd_lanes.specs.Sends.{AreSent, Counts, datagrams_to}
 use Rattle.cmd_lanes.specs.Texts.{lanes_text}
 
--- There are datagrams with their groups, one for each entry of the journal of a link that tells it, in order. The datagrams of each group are, in
--- order and each once, those that *Session run* gives for it from the ticks of the script with the exact sample of the writes before each and with all
--- components enabled, and there are no others. The text tells how many were sent, and the log that the same ticks give each writer; these are numbers
--- of 64 bits, so it tells no other ones.
+-- There are datagrams with their groups, one for each entry of the journal of a link that tells it, in order. The datagrams of each group
+-- are, in order and each once, those that *Session run* gives for it from the ticks of the script with the exact sample of the writes
+-- before each and with all components enabled. There are no others. The text tells how many were sent, and the log that the same ticks give
+-- each writer; these are numbers of 64 bits, so it tells no other ones.
 pub record IsLanesOf (config : Config) (script : Script) (told : Option LinkState) (text : List ℕ) : Type 0 where
   pub sends : List Send
   pub counts : Counts

@@ -16,9 +16,10 @@ use ua_base::{Folder, Gate, Link, Sink};
 /// The places of the queue between the lanes and the thread that sends.
 const ROOM: u32 = 1024;
 
-/// Applies the writes of the script of this name, runs the writer groups of the configuration of this name or the built-in one on
-/// threads of their own, which hand their datagrams to this thread through a queue, sends them over the link, and writes what was
-/// sent. The gate is called before and after each turn of a lane. A script with other lines than writes, ticks and fates is refused.
+/// Applies the writes of the script of this name, and runs the writer groups of the configuration of this name or the built-in one
+/// on threads of their own. These pass their datagrams to this thread through a queue. It sends them over the link, and writes what
+/// was sent. The gate is called before and after each turn of a lane. A script with other lines than writes, ticks and fates is
+/// refused.
 pub fn lanes<'w, R: Threads + Wait + Sync, F: Folder, A: Link, G: Gate, K: Sink>(
     rt: &R,
     alloc: Global,

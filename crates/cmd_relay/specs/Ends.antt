@@ -58,10 +58,11 @@ pub record Writes (tells : List ℕ → ToldFile) (names : Names) (lab wire : Wi
   pub wire_opened : wire.opened_with ≡ Some (opening_again accepted.second)
   pub relay : IsRelayOf accepted.first accepted.second accepted.script lab.told wire.told text
 
--- What was written is the text of a play and of a gateway, of what was accepted: of one relay, which each link that tells a journal tells. Each data frame of the gateway has the number of its
--- source's stores at its round, and publishes the row of that store; each reader that is matched within the second configuration, and goes by numbers, holds the row of the
--- printed store, or has said why it waits, where its read group takes nothing but what was sent. Where the source's takes nothing else too, the printed version is known and
--- that of the row, and neither store nor version falls from one pump to a later one, where nothing was cut.
+-- What was written is the text of a play and of a gateway, of what was accepted: of one relay, which each link that tells a journal tells.
+-- Each data frame of the gateway has the number of its source's stores at its round, and publishes the row of that store. A reader that is
+-- matched within the second configuration, and goes by numbers, holds the row of the printed store, or has said why it waits, where its
+-- read group takes nothing but what was sent. Where the source's takes nothing else too, the printed version is known and that of the row,
+-- and neither store nor version falls from one pump to a later one, where nothing was cut.
 pub record WritesRelay (names : Names) (old new : Outside) (lab wire : Wire) : Type 0 where
   pub accepted : Accepted
   pub accepts : Accepts old.file names accepted

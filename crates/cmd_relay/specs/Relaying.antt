@@ -37,10 +37,11 @@ use Rattle.cmd_relay.specs.Texts.{IsTextOf, versions_of}
 
 -- ---- the whole
 
--- A play of the script with the first configuration, and a gateway of the second that follows it, in which each data set has a source: after each tick and pump of
--- the session the gateway collects what its readers have stored, and has a tick of as many milliseconds, and a pump. Each link that tells a journal tells its own, and the
--- text tells the play, and no other, and the gateway: its numbers have 64 bits, and what it publishes is of the history that the script writes where the source's read group takes
--- nothing but what was sent; where the reader's does too, so is what a matched reader that goes by numbers holds.
+-- A play of the script with the first configuration, and a gateway of the second that follows it, in which each data set has a source.
+-- After each tick and pump of the session the gateway collects what its readers have stored, and has a tick of as many milliseconds, and a
+-- pump. Each link that tells a journal tells its own. The text tells the play, and no other, and the gateway. Its numbers have 64 bits.
+-- What it publishes is of the history that the script writes where the source's read group takes nothing but what was sent. Where the
+-- reader's does too, so is what a matched reader that goes by numbers holds.
 pub record IsRelayOf (first second : Config) (script : Script) (lab wire : Option LinkState) (text : List ℕ) : Type 0 where
   pub closed : Closed
   pub play : IsPlayOf first script lab closed

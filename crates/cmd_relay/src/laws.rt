@@ -25,10 +25,10 @@ use gateway_laws::{
 };
 
 /// The line of a gateway's writer has the stores whose rows its data frames publish, each that of its own round. The line of a
-/// matched reader with numbering `message`, whose read group takes nothing but what was sent, has the row of the store in it and,
-/// where one is told, as it is where the source's read group takes nothing else too, the version that the store came with; or it
-/// says why the reader waits. The text has a line of each, and from one moment to a later one what is held gets no older, where the
-/// source's read group takes nothing else too and nothing was cut.
+/// matched reader with numbering `message`, whose read group takes nothing but what was sent, has the row of the store in it, or
+/// says why the reader waits. Where one is told, it also has the version that the store came with. That is so where the source's
+/// read group takes nothing else too. The text has a line of each, and from one moment to a later one what is held gets no older,
+/// where the source's read group takes nothing else too and nothing was cut.
 pub fn the_lines_of_a_gateway_tell_stores()
     ensures stores { (p : Plan) (second : Config) (sources : List Source) (relay : List RelayStep)
         (rows : ℕ → ℕ → List DataValue) (g w : ℕ) (line : List ℕ) → IsRelay p second sources relay

@@ -1,5 +1,5 @@
-//! Laws of two devices, over all their calls: what a publisher sends is what its groups make of its rows, what a subscriber keeps is the
-//! plain reading of what came, and what a matched reader holds is what the publisher published.
+//! Laws of two devices, over all their calls. What a publisher sends is what its groups make of its rows. What a subscriber keeps
+//! is the plain reading of what came. What a matched reader holds is what the publisher published.
 #![tactic(auto)]
 
 mod laws;

@@ -79,12 +79,11 @@ impl<'c> Gateway<'c> {
         self.collected.take(passes, origins);
     }
 
-    /// A tick with what was collected last, as a session's in which all components are enabled:
-    /// time goes on by so many milliseconds, an hour at most; each sender turns to the moment, and
-    /// a new token refreshes its groups' writers; timers expire; and each group that is due (at the
-    /// closing tick each one) and whose sender isn't spent has its turn, and its datagrams are sent
-    /// once each, in order. Want of memory comes from a send of the link alone; what was done
-    /// before it stands.
+    /// A tick with what was collected last, as a session's in which all components are enabled. Time goes on by so many
+    /// milliseconds, an hour at most. Each sender turns to the moment, and a new token refreshes its groups' writers.
+    /// Timers expire. Each group that is due (at the closing tick each one) and whose sender isn't spent has its turn,
+    /// and its datagrams are sent once each, in order. Want of memory comes from a send of the link alone; what was
+    /// done before it stands.
     pub fn tick<L: Link>(&mut self, ms: u64, closing: bool, link: &mut L) -> Ticked
         requires open { IsSome (L.opened_with link.old) }
         requires may { MayTick ms closing self.old }

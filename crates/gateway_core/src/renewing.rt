@@ -15,8 +15,8 @@ use crate::gateway::Gateway;
 use group_keys::Ring;
 
 impl Gateway<'_> {
-    /// A key group of the second configuration goes on with another ring, whose moments are the gateway's, as a session's does:
-    /// the sender goes on under the token in use until a set with a higher one comes, and its numbers go on; the read groups that
+    /// A key group of the second configuration goes on with another ring, whose moments are the gateway's, as a session's does.
+    /// The sender goes on under the token in use until a set with a higher one comes, and its numbers go on. The read groups that
     /// share the keys take those of the ring alone from now on, and keep what they took, their readers and their timers. What was
     /// collected stays. The answer is whether the ring has the token in use with the same keys: where it hasn't, readers with
     /// this ring refuse what is sent until the token changes. The keys of the first configuration are its session's to renew.

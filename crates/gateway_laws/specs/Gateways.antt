@@ -38,8 +38,8 @@ IsHonestSource p source steps = TakesWhatWasSent p source.read_group steps
 abbrev pub IsHonestAgain : Config → ℕ → List RelayStep → Type 0
 IsHonestAgain second r relay = TakesWhatWasSent (plan_again second) r (seconds relay)
 
--- A store's row is one that its reader held at the end of the pump that made the store: the row of the version that the first history has at the message's
--- place, which the store's origin tells, cut to the reader's fields.
+-- A store's row is one that its reader held at the end of the pump that made the store. It is the row of the version that the first history
+-- has at the message's place, which the store's origin tells, cut to the reader's fields.
 pub record IsStoreOfVersion (p : Plan) (source : Source) (all : List Step) (rows : ℕ → ℕ → List DataValue) (store : ℕ) (row : List DataValue) : Type 0 where
   pub made : Store
   pub was : WasMade p source all store made

@@ -34,8 +34,8 @@ source_of second sources g w = source_at sources (set_of second g w)
 abbrev pub version_told : Plan → Source → List RelayStep → ℕ → Option ℕ
 version_told p source relay store = version_in (versions_kept p source relay) store
 
--- A version is told of the store, and it is that of the store's row in the first history: store 0 is the opening row, of version 0, and each other the row that its
--- reader held at the end of the pump that made it. `rows` are those of the versions of the first history.
+-- A version is told of the store, and it is that of the store's row in the first history. Store 0 is the opening row, of version 0. Each
+-- other is the row that its reader held at the end of the pump that made it. `rows` are those of the versions of the first history.
 pub record IsKnown (p : Plan) (second : Config) (sources : List Source) (relay : List RelayStep) (rows : ℕ → ℕ → List DataValue) (set store : ℕ) : Type 0 where
   pub version : ℕ
   pub told : version_told p (source_at sources set) relay store ≡ Some version
@@ -55,9 +55,9 @@ pub record IsTurnOf (second : Config) (relay : List RelayStep) (g w : ℕ) (turn
   pub since : List WriterDeed
   pub behind : before ≡ since ++ writer_deeds (plan_again second) g w (seconds older)
 
--- A data frame of this place tells this store: it is the number of stores that the source has at the frame's own round, after the first session's pump, and up to the
--- frame the writer's frames publish the row of the store. Where the source's read group takes
--- nothing but what was sent, its version is known.
+-- A data frame of this place tells this store: it is the number of stores that the source has at the frame's own round, after the first
+-- session's pump. Up to the frame the writer's frames publish the row of the store. Where the source's read group takes nothing but what
+-- was sent, its version is known.
 pub record TellsStore (p : Plan) (second : Config) (sources : List Source) (relay : List RelayStep) (rows : ℕ → ℕ → List DataValue) (g w place store : ℕ) : Type 0 where
   pub turn : WriterTurn
   pub before : List WriterDeed
@@ -103,10 +103,11 @@ IsNoOlder p second source newer older r i g w =
 
 -- ---- the whole
 
--- THE GATEWAY. Each data frame of its writers tells the number of its source's stores at its round, and publishes that store's row, whose version is known where the
--- source's read group takes nothing but what was sent; the stores of a writer never fall. Each reader that is matched within the second configuration, and goes by
--- numbers, holds the row of the store that its number names, or waits, where its read group takes nothing but what was sent. From one moment to a later one what it
--- holds gets no older, where both read groups take nothing else, and neither it nor its source was cut.
+-- THE GATEWAY. Each data frame of its writers tells the number of its source's stores at its round, and publishes that store's row. The
+-- row's version is known where the source's read group takes nothing but what was sent. The stores of a writer never fall. Each reader that
+-- is matched within the second configuration, and goes by numbers, holds the row of the store that its number names, or waits, where its
+-- read group takes nothing but what was sent. From one moment to a later one what it holds gets no older, where both read groups take
+-- nothing else, and neither it nor its source was cut.
 pub record TellsGateway (p : Plan) (second : Config) (sources : List Source) (relay : List RelayStep) (rows : ℕ → ℕ → List DataValue) : Type 0 where
   pub stores : (g w place store : ℕ) → w < length (group_at second g).writer → Contains (log_at (plan_again second) g w (seconds relay)) (place, store)
       → TellsStore p second sources relay rows g w place store

@@ -48,9 +48,9 @@ use session_laws::{
 };
 use version_cell::histories_are_the_models;
 
-/// A gateway is a session of its configuration whose samples are the counts of its sources' stores, which never fall: each data
-/// frame of its writers publishes the row of the store that its log has, its logs never fall, and each reader that is matched
-/// within it, and whose read group takes nothing but what was sent, reads by *Records*, and a row that it holds is that of a store in
+/// A gateway is a session of its configuration whose samples are the counts of its sources' stores, which never fall. Each data
+/// frame of its writers publishes the row of the store that its log has, and its logs never fall. Each reader that is matched
+/// within it, and whose read group takes nothing but what was sent, reads by *Records*. A row that it holds is that of a store in
 /// the log: where it goes by numbers, of the one that the log has at its number.
 pub fn a_gateway_publishes_what_is_stored()
     ensures session { (p : Plan) (second : Config) (sources : List Source) (relay : List RelayStep)
@@ -90,8 +90,9 @@ pub fn a_gateway_publishes_what_is_stored()
     data_messages_stand_for_versions();
 }
 
-/// Where the source's read group takes nothing but what was sent, each store of a source has a row that its reader held at the end of
-/// the pump that made it: that of the version that the first history's writer logged at the number of the message, which is what the store's origin tells, cut to the reader's fields.
+/// Where the source's read group takes nothing but what was sent, each store of a source has a row that its reader held at the end
+/// of the pump that made it. That is the row, cut to the reader's fields, of the version that the first history's writer logged at
+/// the number of the message. The store's origin tells this version.
 pub fn what_is_stored_was_published()
     ensures { (p : Plan) (second : Config) (sources : List Source) (relay : List RelayStep)
         (set store : ℕ) (rows : ℕ → ℕ → List DataValue) → IsRelay p second sources relay
@@ -121,11 +122,11 @@ pub fn an_uncut_reader_never_holds_an_older_version()
     a_session_has_at_most_4097_ticks();
 }
 
-/// From one moment of a relay to a later one the store that a reader holds which is matched within the second configuration, goes by
-/// numbers, and whose read group takes nothing but what was sent, doesn't fall, where that reader isn't cut between them. Nor, where
-/// the source's read group takes nothing but what was sent, does the version that a store came with, where the source isn't cut
-/// between the making of the two stores. So, where both take nothing else, the version that is printed doesn't fall, where neither
-/// the reader is cut between the moments nor the source after the making of the store that was held earlier.
+/// From one moment of a relay to a later one the store that a reader holds doesn't fall, where that reader isn't cut between them.
+/// The reader is matched within the second configuration, goes by numbers, and its read group takes nothing but what was sent. Nor,
+/// where the source's read group takes nothing but what was sent, does the version that a store came with, where the source isn't
+/// cut between the making of the two stores. So, where both take nothing else, the version that is printed doesn't fall, where
+/// neither the reader is cut between the moments nor the source after the making of the store that was held earlier.
 pub fn a_relayed_version_never_falls()
     ensures stores { (p : Plan) (second : Config) (sources : List Source)
         (newer older : List RelayStep) (r i g w : ℕ) (one other : ℕ)
@@ -158,8 +159,8 @@ pub fn a_relayed_version_never_falls()
     a_session_has_at_most_4097_ticks();
 }
 
-/// A reader that is matched within the second configuration, goes by numbers, and holds a row, holds the row of a store, which is the
-/// opening row or the row of a version of the first history, where its read group and the source's take nothing but what was sent.
+/// A reader that is matched within the second configuration, goes by numbers, and holds a row, holds the row of a store. That is
+/// the opening row or the row of a version of the first history. Its read group and the source's take nothing but what was sent.
 pub fn a_relayed_row_is_of_the_first_history()
     ensures { (p : Plan) (second : Config) (sources : List Source) (relay : List RelayStep)
         (r i g w : ℕ) (row : List DataValue) → IsRelay p second sources relay
@@ -221,10 +222,10 @@ pub fn a_kept_version_is_of_its_store()
     a_session_has_at_most_4097_ticks();
 }
 
-/// What a gateway tells is of the first history: each data frame has the number of its source's stores at its round, and the row
-/// of that store, whose version is known where the source's read group takes nothing but what was sent; what a matched reader that
-/// goes by numbers holds is the row of the store that its number names, where its read group takes nothing but what was sent; and
-/// from one moment to a later one neither store nor version falls, where both take nothing else and nothing was cut.
+/// What a gateway tells is of the first history. Each data frame has the number of its source's stores at its round, and the row
+/// of that store, whose version is known where the source's read group takes nothing but what was sent. What a matched reader that
+/// goes by numbers holds is the row of the store that its number names, where its read group takes nothing but what was sent. From
+/// one moment to a later one neither store nor version falls, where both take nothing else and nothing was cut.
 pub fn a_gateway_tells_the_first_history()
     ensures { (p : Plan) (second : Config) (sources : List Source) (relay : List RelayStep)
         (rows : ℕ → ℕ → List DataValue) → IsRelay p second sources relay

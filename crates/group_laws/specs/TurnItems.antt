@@ -91,8 +91,8 @@ pub record ComesInPart (group : GroupPart) (past : List GroupDeed) (input : Turn
 
 -- ---- the laws of it
 
--- A part of what a writer of the group answered at a turn, whichever it is, adds to a reader's list what its answer gives the reader: whole it adds the
--- answer's item, and as a chunk the chunk, and the item where it makes the message whole.
+-- A part of what a writer of the group answered at a turn, whichever it is, adds to a reader's list what its answer gives the reader. Whole
+-- it adds the answer's item. As a chunk it adds the chunk, and the item where it makes the message whole.
 abbrev pub AddsItsAnswer : GroupPart → Type 0
 AddsItsAnswer group =
     (past : List GroupDeed) (input : TurnInput) (writer : ℕ) (way : Way) (place : ℕ → ℕ)
@@ -101,8 +101,8 @@ AddsItsAnswer group =
     → piece_on way place moment stamp before piece
     ≡ part_adds way place moment stamp before (item_frame way answer) piece
 
--- A part of what a writer of the group answered at a turn, if it isn't a chunk, adds one item to the list of a reader that goes by numbers and takes this
--- number for its place: the answer, at its place, cut to the reader's fields. A jump may cut before it.
+-- A part of what a writer of the group answered at a turn, if it isn't a chunk, adds one item to the list of a reader that goes by numbers
+-- and takes this number for its place. The item is the answer, at its place, cut to the reader's fields. A jump may cut before it.
 abbrev pub AddsItsItem : GroupPart → Type 0
 AddsItsItem group =
     (past : List GroupDeed) (input : TurnInput) (writer : ℕ) (way : Way) (place : ℕ → ℕ)

@@ -86,8 +86,8 @@ pub record IsTakenAs (acceptable : Bool) (opened : Opened) (answer : Result Open
 
 -- ---- the law of what is taken
 
--- Whatever it accepted before, a read group that is matched to a group of the configuration opens each datagram of a turn of it to just what the group had
--- for it, where it accepts the token and the number, and else refuses it for these.
+-- A read group that is matched to a group of the configuration opens each datagram of a turn of it to just what the group had for it,
+-- whatever it accepted before. It does where it accepts the token and the number, and else refuses it for these.
 abbrev pub AreTakenAsSent : Config → Type 0
 AreTakenAsSent config =
     (group : GroupPart) (readers : ReadGroupPart) (past : List GroupDeed) (input : TurnInput)

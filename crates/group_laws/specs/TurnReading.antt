@@ -67,8 +67,8 @@ IsBehind publisher group joining None = ⊤
 IsBehind publisher group joining (Some frame) =
     nat_le (size_of frame) (frame_room publisher group) ≡ false → IsNewFor joining.current frame.number
 
--- the reader was given just this frame, with the receipt of the only datagram that it came in, or of the one whose chunk made it whole; the chunks that
--- are joined then are as before, or of this message, which is a data frame
+-- The reader was given just this frame, with the receipt of the only datagram that it came in, or of the one whose chunk made it whole. The
+-- chunks that are joined then are as before, or of this message, which is a data frame.
 pub record IsGiven (seat : Seat) (receipts : List Receipt) (fed : Fed) (frame : Frame) (after : Fed) : Type 0 where
   pub receipt : Receipt
   pub one_of : Contains receipts receipt
@@ -129,8 +129,9 @@ IsPartBy group past input writer seat piece =
 
 -- ---- the laws of it
 
--- A reader that takes all datagrams of a turn of a dynamic group of the configuration, in order, is given once what its writer answered, if it joins no chunks
--- of a message that isn't older, where the frame comes in chunks; where the writer answered nothing the reader is left as it was.
+-- A reader that takes all datagrams of a turn of a dynamic group of the configuration, in order, is given once what its writer answered.
+-- Where the frame comes in chunks, this holds if it joins no chunks of a message that isn't older. Where the writer answered nothing the
+-- reader is left as it was.
 abbrev pub IsReadInFrames : Config → Type 0
 IsReadInFrames config =
     (group : GroupPart) (past : List GroupDeed) (input : TurnInput) (writer : ℕ) (seat : Seat)
@@ -142,8 +143,8 @@ IsReadInFrames config =
     → IsReadAs seat (map (λ r. r.receipt) received) fed (frame_answered group past input writer seat)
     (fed_all seat fed received)
 
--- A reader that takes the datagram of a turn of a fixed group of the configuration is given the key frame that its writer answered; where the writer had no
--- turn the reader is left as it was, and the zeros in its slot are a bad part.
+-- A reader that takes the datagram of a turn of a fixed group of the configuration is given the key frame that its writer answered. Where
+-- the writer had no turn the reader is left as it was, and the zeros in its slot are a bad part.
 abbrev pub IsReadInSlots : Config → Type 0
 IsReadInSlots config =
     (group : GroupPart) (past : List GroupDeed) (input : TurnInput) (writer : ℕ) (seat : Seat)

@@ -13,14 +13,14 @@ ghost use Rattle.group_laws.specs.TurnOpened.{AreAsMany, AreNotDynamic, AreNotOu
 ghost use Rattle.group_laws.specs.TurnPieces.{HaveItsFrames, HaveItsSlot, HaveNothingOfOthers};
 ghost use Rattle.group_laws.specs.TurnReading.{HavePartsInFrames, HavePartsInSlots, IsReadInFrames, IsReadInSlots};
 
-/// What a group of a configuration sends in a turn, taken in order by a matched read group, gives an enabled reader of a writer
-/// of the group what this writer answered, once: a token that is raised cuts the reader first; then it is given the frame, whole,
-/// joined of its chunks or out of its slot, cut to the reader's fields if fields were appended to the writer's data set since.
-/// Where the writer answered nothing the reader is left as it was, and in a fixed layout the zeros in its slot are a bad part.
-/// A reader of a writer of another group, and a disabled one, are cut at most. It is so in each layout and security mode, whatever
-/// the read group went through before, if it accepted nothing that the sender is still to send, and if the reader joins no chunks
-/// of a message that isn't older, where the frame comes in chunks. Then it has accepted nothing that the sender is to send after
-/// the turn. Nothing is said here where a datagram is lost: `each_part_is_of_what_was_answered` is for that.
+/// What a group of a configuration sends in a turn, taken in order by a matched read group, gives an enabled reader of a writer of
+/// the group what this writer answered, once. A token that is raised cuts the reader first. Then it is given the frame: whole,
+/// joined of its chunks or out of its slot, and cut to the reader's fields if fields were appended to the writer's data set since.
+/// Where the writer answered nothing the reader is left as it was, and in a fixed layout the zeros in its slot are a bad part. A
+/// reader of a writer of another group, and a disabled one, are cut at most. It is so in each layout and security mode, whatever
+/// the read group went through before, if it accepted nothing that the sender is still to send. Where the frame comes in chunks,
+/// the reader must not be joining chunks of a message that isn't older. Then it has accepted nothing that the sender is to send
+/// after the turn. Nothing is said here where a datagram is lost: `each_part_is_of_what_was_answered` is for that.
 pub fn what_a_turn_sends_is_what_a_reader_is_given()
     ensures dynamic { (c : Course) (writer : ℕ) → ComesInFrames c writer → GetsAnswer c writer }
     ensures fixed { (c : Course) (writer : ℕ) → ComesInSlots c writer → GetsSlot c writer }
@@ -51,8 +51,8 @@ pub fn a_dynamic_turn_has_its_writers_frames()
 {}
 
 /// A reader that takes all datagrams of a turn of a dynamic group, in order, is given once what its writer answered, whole or
-/// joined from its chunks, and no part of them is bad, if it joins no chunks of a message that isn't older, where the frame
-/// comes in chunks; where the writer answered nothing the reader is left as it was.
+/// joined from its chunks, and no part of them is bad. Where the frame comes in chunks, this holds if the reader joins no
+/// chunks of a message that isn't older. Where the writer answered nothing the reader is left as it was.
 pub fn a_dynamic_turn_is_read_as_it_was_answered()
     ensures { (config : Config) → IsReadInFrames config }
 {}
@@ -63,15 +63,15 @@ pub fn a_fixed_turn_has_its_writers_slot()
     ensures { (config : Config) → HaveItsSlot config }
 {}
 
-/// A reader that takes the datagram of a turn of a fixed group is given the key frame that its writer answered; where the
+/// A reader that takes the datagram of a turn of a fixed group is given the key frame that its writer answered. Where the
 /// writer had no turn the reader is left as it was, and the zeros in its slot are a bad part.
 pub fn a_fixed_turn_is_read_as_it_was_answered()
     ensures { (config : Config) → IsReadInSlots config }
 {}
 
-/// Whichever datagrams of a turn come, and in whichever order, each part of one for the reader of a writer is read as the frame
-/// that this writer answered at the turn, or as a chunk of the one message of this frame, under its number, which no chunk of an
-/// Alive has; a slot of a writer that had no turn is read as no frame.
+/// Whichever datagrams of a turn come, and in whichever order, each part of one for the reader of a writer is read as what this
+/// writer answered at the turn. It is read as the frame, or as a chunk of the one message of this frame. A chunk stands under
+/// the message's number, and no Alive has chunks. A slot of a writer that had no turn is read as no frame.
 pub fn each_part_is_of_what_was_answered()
     ensures dynamic { (config : Config) → HavePartsInFrames config }
     ensures fixed { (config : Config) → HavePartsInSlots config }
@@ -82,20 +82,21 @@ pub fn a_dynamic_turn_has_nothing_for_readers_of_other_writers()
     ensures { (config : Config) → HaveNothingOfOthers config }
 {}
 
-/// A part of what a writer answered at a turn adds its answer to the list of a reader, cut to the reader's fields: at its place if
-/// the reader goes by numbers and takes this number for its place, and else without one, where a delta frame comes to nothing. A
-/// chunk adds itself where it counts, and the answer where the message is whole with it, if the chunks that stand at its place are
-/// of the same message. A jump may cut before the answer. The slot of a writer that had no turn adds nothing.
+/// A part of what a writer answered at a turn adds its answer to the list of a reader, cut to the reader's fields. It stands at
+/// its place if the reader goes by numbers and takes this number for its place. Else it stands without one, where a delta frame
+/// comes to nothing. A chunk adds itself where it counts, and the answer where the message is whole with it, if the chunks that
+/// stand at its place are of the same message. A jump may cut before the answer. The slot of a writer that had no turn adds
+/// nothing.
 pub fn a_part_adds_the_item_of_its_answer()
     ensures answered { (group : GroupPart) → AddsItsAnswer group }
     ensures whole { (group : GroupPart) → AddsItsItem group }
     ensures quiet { (group : GroupPart) → AddsNothing group }
 {}
 
-/// Whichever read group gets a datagram of a turn, and whichever keys it has: a read group that asks for another group by its id
-/// refuses it; one of a dynamic layout refuses it if the group is fixed; and if the group is dynamic too, what is opened of it has
-/// nothing for the reader of a writer that isn't of the group. Of a read group of a fixed layout that asks for any group nothing
-/// is said: it takes whatever it can open.
+/// Whichever read group gets a datagram of a turn, and whichever keys it has, three things hold. A read group that asks for
+/// another group by its id refuses it. One of a dynamic layout refuses it if the group is fixed. If the group is dynamic too, what
+/// is opened of it has nothing for the reader of a writer that isn't of the group. Of a read group of a fixed layout that asks for
+/// any group nothing is said: it takes whatever it can open.
 pub fn a_datagram_has_nothing_for_readers_of_other_groups()
     ensures named { (config : Config) → AreNotOurs config }
     ensures fixed { (config : Config) → AreNotDynamic config }
@@ -115,7 +116,7 @@ pub fn a_matched_reader_reads_its_writer()
     ensures major { (group : GroupPart) → HasTheirMajor group }
 {}
 
-/// A turn of a group of a configuration that was read, with numbers left for its datagrams, is one that these laws speak of: that
+/// A turn of a group of a configuration that was read, with numbers left for its datagrams, is one that these laws speak of. That
 /// its headers can be written follows from the types of the configuration's fields, whichever sender of its key group it has.
 pub fn an_allowed_turn_is_a_group_turn()
     ensures turn { (config : Config) → AllowsGroupTurns config }

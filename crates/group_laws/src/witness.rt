@@ -15,7 +15,7 @@ pub fn the_built_in_groups_are_matched()
 {}
 
 /// A configuration of a signed group, a fixed one and one whose frames are longer than its datagrams, each with a matched read
-/// group, is accepted; and a first turn of each of its groups meets all that is asked of a turn that a reader takes in order: a
+/// group, is accepted. A first turn of each of its groups meets all that is asked of a turn that a reader takes in order: a
 /// signed datagram, one with a slot, and two with the chunks of one frame. At each the writer answers.
 pub fn the_premises_of_turns_are_met()
     ensures accepted { configuration three_text ≡ Ok three_config }

@@ -17,11 +17,11 @@ use std::alloc::Global;
 use std::marker::PhantomData;
 use ua_base::{Fate, Link, Opened, Received, Sent};
 
-/// A link that passes every call on, and keeps a line in the JSON mapping (OPC 10000-14 section 7.2.5) for each datagram that was
-/// sent since it was opened by way of the tap, is unsecured, has a list of writer ids of the configuration, and whose parts all read
-/// as frames of these writers' data sets with a number and with both versions or neither. Each other datagram that was sent is
-/// counted as skipped, also one whose publisher isn't a text of at most 256 bytes. A line takes its memory before the datagram is
-/// sent.
+/// A link that passes every call on, and keeps lines in the JSON mapping (OPC 10000-14 section 7.2.5). A line is kept for each
+/// datagram that was sent since it was opened by way of the tap, and that meets three conditions. It is unsecured. It has a list of
+/// writer ids of the configuration. Its parts all read as frames of these writers' data sets, with a number, and with both versions
+/// or neither. Each other datagram that was sent is counted as skipped, also one whose publisher isn't a text of at most 256 bytes.
+/// A line takes its memory before the datagram is sent.
 #[derive(Drop)]
 pub struct Tap<'a, L: Link, M: Made> {
     link: &'a mut L,

@@ -42,9 +42,9 @@ pub record AreLanes (config : Config) (turns : ℕ) (lanes : List Lane) : Type 0
 abbrev pub datagrams_in_group : ℕ → List Parcel → List (List ℕ)
 datagrams_in_group g parcels = map (λ pair. pair.datagram) (of_group g (map pair_of parcels))
 
--- *lanes*: there are parcels, datagrams with their groups, with an entry for each that the link tells more, in order, and the counts of these entries; the
--- datagrams of each group are, in order and each once, those that Session run gives for it from these turns with all components enabled, and there are no
--- others
+-- *lanes*: there are parcels, datagrams with their groups, with an entry for each that the link tells more, in order, and the counts of
+-- these entries. The datagrams of each group are, in order and each once, those that Session run gives for it from these turns with all
+-- components enabled. There are no others.
 pub record HasRunLanes (config : Config) (turns : List TurnIn) (first last : Option LinkState) (ran : Ran) : Type 0 where
   pub parcels : List Parcel
   pub tells : Tells first last (Conveyed parcels (record { sent = ran.sent; failed = ran.failed; lacks = false }))

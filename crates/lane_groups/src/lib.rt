@@ -1,5 +1,5 @@
-//! Writer groups on threads of their own (OPC 10000-14 6.2.6, WriterGroup): the groups of a key group share a lane and its sender,
-//! each group that isn't secured has a lane of its own, and one side sends what they make.
+//! Writer groups on threads of their own (OPC 10000-14 6.2.6, WriterGroup). The groups of a key group run on one thread and share
+//! its sender. Each group that isn't secured has a thread of its own. One thread sends what they make.
 #![tactic(auto)]
 
 mod lane;

@@ -13,7 +13,7 @@ ghost use Rattle.session_model.specs.Steps.{Plan, Step};
 ghost use Rattle.play_laws.specs.Taking.{IsOfItsCalls, MayTakeAll, TakesAll};
 
 /// Over a link in memory none of whose receives fails, a pump takes all that waits, in order, each datagram once, and then finds
-/// that nothing is ready: where fewer wait than a pump takes, none longer than one may be.
+/// that nothing is ready. Where fewer wait than a pump takes, none longer than one may be.
 pub fn a_pump_takes_all_that_waits()
     ensures { (settings : Settings) (before entries rest : List Entry) (left : ℕ)
         → IsOfItsCalls settings (before ++ entries ++ rest)
@@ -30,9 +30,9 @@ pub fn a_memory_link_tells_of_each_session()
         → journal p steps ≡ first ++ rest → ¬ EndsInNothings first }
 {}
 
-/// A link in memory that was made anew and tells (`told`, `patience` of `MemoryLink::new`) tells to the end of a session over it, by what `play` and every other
-/// command says of its link (`lasts` of `PerformsOver` and of `UsesLink`): it has patience for 2^64 - 1 answers Nothing, and a session
-/// of a script is answered so 4,097 times at most.
+/// A link in memory that was made anew and tells (`told`, `patience` of `MemoryLink::new`) tells to the end of a session over it.
+/// This is by what `play` and every other command says of its link (`lasts` of `PerformsOver` and of `UsesLink`). It has patience
+/// for 2^64 - 1 answers Nothing, and a session of a script is answered so 4,097 times at most.
 pub fn a_new_memory_link_tells_to_the_end()
     ensures { (old new : LinkValue) → patience_of old ≡ 2 ^ 64 - 1 → IsSome (told_by old)
         → TellsOn told_by patience_of session_nothings old new → IsSome (told_by new) }

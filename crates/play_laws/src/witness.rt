@@ -45,8 +45,8 @@ pub fn a_script_with_a_fate_ends_so()
         → EndsBehind both_lost closed None None Start }
 {}
 
-/// And its report is this text: with `fate 0 drop` one datagram was received, and the reader has number 1 and version 1; with
-/// `fate 1 drop` it has number 0; with both none was received, and the reader waits for its start.
+/// And its report is this text. With `fate 0 drop` one datagram was received, and the reader has number 1 and version 1. With
+/// `fate 1 drop` it has number 0. With both none was received, and the reader waits for its start.
 pub fn a_script_with_a_fate_reports_so()
     ensures first { (link : LinkValue) (closed : Closed)
         → IsPlayedOver link ((0, fates.Drop) ∷ []) closed

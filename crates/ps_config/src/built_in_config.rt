@@ -12,9 +12,8 @@ use std::alloc::Global;
 use ua_base::NoMemory;
 use ua_values::Kind;
 
-/// The configuration that is taken where none is given: the data set `demo` with four fields `a`,
-/// `b`, `c` and `d` of the kind UInt32, a group `g1` with a writer `w1` of it, and a read group
-/// `rg1` with a reader `r1` of that writer.
+/// The configuration that is taken where none is given. Its data set `demo` has four fields `a`, `b`, `c` and `d` of
+/// the kind UInt32. Its group `g1` has a writer `w1` of it, and its read group `rg1` a reader `r1` of that writer.
 #[tactic(auto, unfolding(crate::specs::BuiltIn::built_in_config))]
 pub fn built_in(alloc: Global) -> Result<Config, NoMemory>
     ensures { IfOk result (λ config. config ≡ built_in_config) }

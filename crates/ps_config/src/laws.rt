@@ -49,9 +49,8 @@ pub fn slots_are_those_of_the_layout()
         → All (IsReadByLayout (tables document)) (outer_tables ReadGroup (tables document)) }
 {}
 
-/// A dynamic group that doesn't lack room has room for one byte in a chunk, needs at most 1,024
-/// datagrams for a turn, and has room for 12 bytes, a keep-alive's most, beside a header with one
-/// writer id and the signature.
+/// A dynamic group that doesn't lack room has room for one byte in a chunk, and needs at most 1,024 datagrams for a
+/// turn. It has room for 12 bytes, a keep-alive's most, beside a header with one writer id and the signature.
 pub fn a_group_with_room_has_room_for_a_keep_alive()
     ensures chunk { (publisher : Publisher) (metas : List MetaData) (group : GroupPart)
         → IsRoomy publisher metas group → 1 ≤ chunk_room publisher group }

@@ -109,8 +109,9 @@ logged_of s = s.left.logged
 abbrev pub KeepsWholeLogs : Session → Type 0
 KeepsWholeLogs s = ticks_of s < logged_of s
 
--- The version of a row that a reader holds is found by its number, of 16 bits: in whole logs, of the last data frame with the number; and in any where a
--- writer has no more data frames than there are numbers, so that each has one of its own. Else no version is told of such a row.
+-- The version of a row that a reader holds is found by its number, of 16 bits. In whole logs it is that of the last data frame with the
+-- number. In any log it is found where a writer has no more data frames than there are numbers, so that each has one of its own. Else no
+-- version is told of such a row.
 abbrev pub tells_versions : Session → Bool
 tells_versions s = nat_lt (ticks_of s) 65536 || nat_lt (ticks_of s) (logged_of s)
 

@@ -27,9 +27,9 @@ use ua_base::NoMemory;
 
 impl Session<'_> {
     /// Ends the session. `dones` has what each thread leaves, in the order of threads. The log of each writer has the data frames
-    /// that it keeps, the first ones. Beside a row that a reader holds stands the version that the log has at its number; none where
-    /// logs are cut, of a session in which more than 65,536 ticks may come, the closing one included: there a number of 16 bits may
-    /// be that of a data frame that the log keeps and of one that it doesn't.
+    /// that it keeps, the first ones. Beside a row that a reader holds stands the version that the log has at its number. None
+    /// stands there where logs are cut, of a session in which more than 65,536 ticks may come, the closing one included. There a
+    /// number of 16 bits may be that of a data frame that the log keeps and of one that it doesn't.
     pub fn close(self, alloc: Global, dones: &[Done]) -> Result<Closed, NoMemory>
         requires session { IsSession self }
         ensures closed { (p : Plan) (steps : List Step)

@@ -15,7 +15,7 @@ pub fn a_session_that_is_not_renewed_stands_behind_its_steps()
 {}
 
 /// Where at most 65,536 ticks may come, the closing one included, no two data frames of a writer have the same number of 16 bits,
-/// whichever rings renew the session's keys: a number that a reader holds is that of one data frame.
+/// whichever rings renew the session's keys. So a number that a reader holds is that of one data frame.
 pub fn each_data_frame_has_its_own_number()
     ensures { (p : Plan) (life : List Lived) (s : SessionValue)
         → StandsIn p life s → ticks_of s < 65536

@@ -17,7 +17,7 @@ impl Session<'_> {
     /// A key group goes on with another ring, whose moments are the session's and whose keys are as long as the key group's:
     /// `key_service::pulled_for` makes one of an answer that came at `moment`. A ring that counts from its pull, as `pulled` makes
     /// it, would turn a sender that runs through all its keys at once. The sender goes on under the token in use until a set with a
-    /// higher one comes, and its numbers go on; the read groups that share the keys take those of the ring alone from now on, and
+    /// higher one comes, and its numbers go on. The read groups that share the keys take those of the ring alone from now on, and
     /// keep what they took, their readers and their timers. The answer is whether the ring has the token in use with the same keys:
     /// where it hasn't, readers with this ring refuse what is sent until the token changes.
     pub fn renew(&mut self, key_group: u8, ring: Ring) -> bool

@@ -47,8 +47,8 @@ pub(crate) struct Left {
 }
 
 impl Left {
-    /// Whether the version of a row that a reader holds is told by its number: where each data frame of a writer has one of its own,
-    /// since at most 65,536 ticks may come, the closing one included; or where the logs keep all data frames.
+    /// Whether the version of a row that a reader holds is told by its number. It is where each data frame of a writer has one of
+    /// its own, since at most 65,536 ticks may come, the closing one included. It is too where the logs keep all data frames.
     pub(crate) fn tells_versions(&self) -> bool
         ensures { result
             ≡ (nat_lt (self.now.stores - 1) 65536 || nat_lt (self.now.stores - 1) self.now.logged) }
@@ -139,10 +139,10 @@ impl<'c> Session<'c> {
         targets.level(rt, &mut self.stores.keeper, looks);
     }
 
-    /// A tick with the last sample: time goes on by so many milliseconds, an hour at most; each sender turns to the moment, and a
-    /// new token refreshes its groups' writers; timers expire; each group's send fault is cleared; and each Operational group that
-    /// is due (at the closing tick each Operational one) has its turn, and its datagrams are sent once each, in order. Want of
-    /// memory comes from a send of the link alone; what was done before it stands.
+    /// A tick with the last sample. Time goes on by so many milliseconds, an hour at most. Each sender turns to the moment, and a
+    /// new token refreshes its groups' writers. Timers expire. Each group's send fault is cleared. Each Operational group that is
+    /// due (at the closing tick each Operational one) has its turn, and its datagrams are sent once each, in order. Want of memory
+    /// comes from a send of the link alone; what was done before it stands.
     pub fn tick<L: Link>(&mut self, ms: u64, closing: bool, link: &mut L) -> Ticked
         requires open { IsSome (L.opened_with link.old) }
         requires may { MayTick ms closing self.old }
@@ -239,11 +239,11 @@ impl<'c> Session<'c> {
         set
     }
 
-    /// Where a reader's last store comes from: how many stores it has, and for the last the number of its message and the version
-    /// that the log of this program's writer has at it, of the data frames that the log keeps. The reader is named by its index over
-    /// all read groups. A number has 16 bits: where logs are cut, of a session in which more than 65,536 ticks may come, the closing
-    /// one included, a number may be that of a data frame that the log keeps and of one that it doesn't, so no version is told but
-    /// that of the opening row, 0.
+    /// Where a reader's last store comes from: how many stores it has, and for the last the number of its message and a version.
+    /// The version is the one that the log of this program's writer has at the number, of the data frames that the log keeps. The
+    /// reader is named by its index over all read groups. A number has 16 bits. Where logs are cut, of a session in which more than
+    /// 65,536 ticks may come, the closing one included, a number may be that of a data frame that the log keeps and of one that it
+    /// doesn't. So no version is told there but that of the opening row, 0.
     pub fn origin(&self, reader: u8) -> Origin
         requires session { IsSession self.now }
         requires there { reader < length (readers (plan_of self.now).config) }

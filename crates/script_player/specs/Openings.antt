@@ -11,8 +11,8 @@ pub record OpensOnce {L : Type 0} (made : L → Making) (openings : L → ℕ) (
   pub at_most_once : (openings new ≡ openings old) ⊎ (openings new ≡ counted_if true (openings old))
   pub once : performed → openings new ≡ counted_if true (openings old)
 
--- It is opened so where the session was performed, and else so or not at all, once; one that can't be opened stays as it was, its count of faults
--- aside, which rose; and it tells on over what a session's pumps are answered.
+-- It is opened so where the session was performed, and else so or not at all, once. One that can't be opened stays as it was, its count of
+-- faults aside, which rose. It tells on over what a session's pumps are answered.
 pub record PerformsOver {L : Type 0} (told : L → Option LinkState) (patience : L → ℕ) (opened_with : L → Option Opening) (faults : L → ℕ) (made : L → Making) (openings : L → ℕ) (opening : Opening) (performed unopened : Type 0) (old new : L) : Type 0 where
   pub opened : performed → opened_with new ≡ Some opening
   pub opens : opened_with new ≢ opened_with old → opened_with new ≡ Some opening

@@ -120,8 +120,9 @@ pub record ChangesHand (thread : ℕ) (old new : List Hand) (hand after : Hand) 
   pub was : HoldsAt (λ h. h ≡ hand) old thread
   pub hands : new ≡ slice_set old thread after
 
--- A thread's passes and the session's have seen the same entries of a data set, maybe further ones than the session had, and after them the thread's own with the
--- patch laid in; of the other data sets they have seen what the session had. The thread was answered the entry's version.
+-- A thread's passes and the session's have seen the same entries of a data set, maybe further ones than the session had, and after them the
+-- thread's own with the patch laid in. Of the other data sets they have seen what the session had. The thread was answered the entry's
+-- version.
 pub record HasWritten (cell : CellData) (set : ℕ) (patch : Patch) (old new : List Known) (hand after : Hand) : Type 0 where
   pub by : ℕ
   pub is_by : (pass_at hand.passes set).author ≡ Some by

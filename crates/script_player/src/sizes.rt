@@ -15,8 +15,8 @@ use ps_config::Config;
 use ps_script::{Act, Script};
 use pubsub_engine::{Append, Size};
 
-/// What a session has to have room for so that it can run the script: its ticks, a data frame of each writer at each tick and at
-/// the closing one, the writes of each of eight threads, and the appended fields.
+/// What a session has to have room for so that it can run the script: its ticks, the writes of each of eight threads, and the
+/// appended fields. Also a data frame of each writer at each tick and at the closing one.
 pub fn size_of(config: &Config, script: &Script) -> Size
     requires config { IsSound config.now }
     requires script { IsScript config.now script.now }

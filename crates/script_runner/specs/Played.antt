@@ -16,8 +16,8 @@ use Rattle.script_runner.specs.Runs.{IsRunOf}
 abbrev pub logs_written : Script → Logs
 logs_written script = λ set. log_after (meta_in script.metas set) set (reverse script.lines)
 
--- *Legal history*: what the lines write to a data set is a legal history of the threads' writes, each with all of its writes there in order; the threads that a
--- played script tells are those of its entries, and the rows of the versions those that it determines
+-- *Legal history*: what the lines write to a data set is a legal history of the threads' writes, each with all of its writes there in
+-- order. The threads that a played script tells are those of its entries, and the rows of the versions those that it determines.
 pub record WritesLegally (config : Config) (script : Script) : Type 0 where
   pub legal : (set : ℕ) → set < length config.dataset → IsLegalLog script set (logs_written script set)
   pub threads : (set : ℕ) → writers_in script set ≡ authors (logs_written script set)

@@ -17,9 +17,10 @@ use Rattle.script_runner.specs.Legal.{IsLegalLog, row_made}
 use Rattle.script_runner.specs.Running.{IsRunBy, IsTickedAt, Logs}
 use Rattle.script_runner.specs.Looks.{AreLooks}
 
--- *Session run* of a script whose threads write beside the publisher: there are a legal history of each data set, and at each tick a version of each that doesn't
--- fall, such that the steps are those of the other lines in order, then the closing tick with the whole histories, and its pump; the link's journal is that of
--- these steps. The closed session is what they leave, tells each history's threads and the looks, and tells the headline.
+-- *Session run* of a script whose threads write beside the publisher. There are a legal history of each data set, and at each tick a
+-- version of each that doesn't fall. The steps are those of the other lines in order, then the closing tick with the whole histories, and
+-- its pump. The link's journal is that of these steps. The closed session is what they leave, tells each history's threads and the looks,
+-- and tells the headline.
 pub record IsRunOf (config : Config) (script : Script) (told : Option LinkState) (closed : Closed) : Type 0 where
   pub logs : Logs
   pub earlier : List Step

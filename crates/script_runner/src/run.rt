@@ -31,10 +31,10 @@ use target_cells::Targets;
 use ua_base::{Gate, Link, NoMemory, Opened};
 use version_cell::histories_are_the_models;
 
-/// Runs a script over a link: opens its session, opens the link with the configuration's port and the script's fates, runs each
-/// thread's writes and watches on a thread of its own and the other lines beside them, in order, with the gate round each tick;
-/// and, when all have ended, closes the session with a closing tick and its pump. All memory but that of the end is taken before
-/// the link is opened.
+/// Runs a script over a link. It opens its session, and opens the link with the configuration's port and the script's fates. It
+/// runs each thread's writes and watches on a thread of its own and the other lines beside them, in order, with the gate round
+/// each tick. When all have ended, it closes the session with a closing tick and its pump. All memory but that of the end is
+/// taken before the link is opened.
 pub fn run_script<R: Threads + Wait + Sync, L: Link, G: Gate>(
     rt: &R,
     alloc: Global,

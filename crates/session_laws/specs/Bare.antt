@@ -71,9 +71,10 @@ NoOtherOnceAll p r i g w pumps start HasAllCome row =
     (later before : List (List Entry)) (first behind : List Entry) → pumps ≡ later ++ (first ++ behind) ∷ before → HasAllCome (first ∷ before)
     → NoOtherBehind p r i g w (map Pump pumps ++ start) (Pump first ∷ map Pump before ++ start) row
 
--- The writer had a closing turn in the last one of its group, and each datagram of that with a part for the reader came in the pumps that the steps end with,
--- with no chunk for it, at a moment after which no other key frame came: to a read group that isn't secured, whose reader has no numbering. Without `whole` a
--- chunk that comes again, once its message came, would bring nothing, whatever key frame came between.
+-- The writer had a closing turn in the last one of its group. Each datagram of that with a part for the reader came in the pumps that the
+-- steps end with, with no chunk for it, at a moment after which no other key frame came. It came to a read group that isn't secured, whose
+-- reader has no numbering. Without `whole` a chunk that comes again, once its message came, would bring nothing, whatever key frame came
+-- between.
 pub record ClosingGotLast (p : Plan) (r i g w : ℕ) (steps : List Step) (before : List GroupDeed) (turn : GroupTurn) (own : WriterTurn) : Type 0 where
   pub bare : IsBare p r i
   pub unsecured : is_secured (setting_of p.config r).setup.mode ≡ false
@@ -107,8 +108,8 @@ pub record ClosingGotSinceLast (p : Plan) (r i g w : ℕ) (steps : List Step) (o
   pub came : AllCame tick tick.ends.pumps
   pub quiet : QuietOnce tick (AllCame tick)
 
--- The same of a secured read group that may name no group: it took each of these datagrams in one of the pumps, and none of a higher token, after which a
--- reader that it cuts holds nothing; and once it took all of them, no other key frame came.
+-- The same of a secured read group that may name no group. It took each of these datagrams in one of the pumps, and none of a higher token,
+-- after which a reader that it cuts holds nothing. Once it took all of them, no other key frame came.
 pub record ClosingTookLast (p : Plan) (r i g w : ℕ) (steps : List Step) (own : WriterTurn) : Type 0 where
   pub bare : IsBare p r i
   pub secured : is_secured (setting_of p.config r).setup.mode ≡ true

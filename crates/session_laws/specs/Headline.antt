@@ -40,8 +40,8 @@ ComesFrom p r i g w steps =
     ItemsAre (IsAnswerBy (seat_at (setting_of p.config r).seats i).part.numbering (meta_of p r i) (answered_at p g w steps))
     (arrivals_at p.config r i (first_number_of p.config g w) steps)
 
--- The row is that of the version which the writer's log has at the place of the number, and names by it, cut to the reader's fields: that of the writer's turn
--- whose data frame has this place, of this version. `rows` are those of the versions of each data set.
+-- The row is that of the version which the writer's log has at the place of the number, and names by it, cut to the reader's fields. It is
+-- that of the writer's turn whose data frame has this place, of this version. `rows` are those of the versions of each data set.
 pub record IsPublished (p : Plan) (r i g w : ℕ) (steps : List Step) (rows : ℕ → ℕ → List DataValue) (number : Option ℕ) (row : List DataValue) : Type 0 where
   pub place : ℕ
   pub version : ℕ

@@ -91,8 +91,8 @@ pub record ClosesBefore (p : Plan) (r i w : ℕ) (steps start : List Step) (turn
   pub operational : receives p.config start r ≡ true
   pub enabled : is_on p.config start (Reader r i) ≡ true
 
--- The writer had a closing turn in the last one of its group, and each datagram of that with a part for the reader came in the pumps that the steps end with: to a
--- read group that isn't secured, whose reader goes by numbers.
+-- The writer had a closing turn in the last one of its group. Each datagram of that with a part for the reader came in the pumps that the
+-- steps end with, to a read group that isn't secured, whose reader goes by numbers.
 pub record ClosingGot (p : Plan) (r i g w : ℕ) (steps : List Step) (before : List GroupDeed) (turn : GroupTurn) (own : WriterTurn) : Type 0 where
   pub numbered : (seat_at (setting_of p.config r).seats i).part.numbering ≡ words.Message
   pub unsecured : is_secured (setting_of p.config r).setup.mode ≡ false

@@ -64,8 +64,8 @@ abbrev pub TellsVersion : NumberingWord → HeldEnd → ℕ → ℕ → Type 0
 TellsVersion words.Message told place version = (told.number ≡ Some (place % 65536)) × (told.version ≡ Some version)
 TellsVersion words.None told place version = (told.number ≡ None) × (told.version ≡ None)
 
--- A row that the reader holds is told as that of a version in the log, which is told by the writer's end: the version is told that stands at the told number, and
--- the row is the version's, cut to the reader's fields; `rows` are those of the versions of each data set.
+-- A row that the reader holds is told as that of a version in the log, which is told by the writer's end. The version is told that stands
+-- at the told number, and the row is the version's, cut to the reader's fields. `rows` are those of the versions of each data set.
 pub record TellsPublished (p : Plan) (r i g w : ℕ) (rows : ℕ → ℕ → List DataValue) (log : List (ℕ × ℕ)) (told : HeldEnd) : Type 0 where
   pub place : ℕ
   pub version : ℕ
@@ -78,8 +78,9 @@ pub record TellsSent (p : Plan) (r i g w : ℕ) (steps : List Step) (told : Held
   pub row : IsRowSent (meta_of p r i) (answered_at p g w steps) (record { place = place; row = row_in (meta_of p r i).fields told.row.words })
   pub its_version : row.turn.turn.version ≡ version
 
--- What the reader holds by *Records*, and nothing else, is told, with the number of the record that is held; it is of a published version, and is
--- the row of the writer's turn whose data frame has its place, cut to the reader's fields; else its reason is told, and always its breaks, the last eight in order.
+-- What the reader holds by *Records*, and nothing else, is told, with the number of the record that is held. It is of a published version,
+-- and is the row of the writer's turn whose data frame has its place, cut to the reader's fields. Else its reason is told. Always its
+-- breaks are, the last eight in order.
 pub record TellsReader (p : Plan) (r i g w : ℕ) (steps : List Step) (rows : ℕ → ℕ → List DataValue) (log : List (ℕ × ℕ)) (end : ReaderEnd) : Type 0 where
   pub held : let numbering = (seat_at (setting_of p.config r).seats i).part.numbering in
       option_map (λ told. row_in (meta_of p r i).fields told.row.words) end.held

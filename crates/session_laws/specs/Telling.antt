@@ -40,11 +40,12 @@ pub record IsReaderTold (p : Plan) (r i g w : ℕ) (steps : List Step) (rows : �
   pub its_writer : EndsWriter p.config closed g w writer
   pub tells : TellsReader p r i g w steps rows writer.log reader
 
--- Every data message of a writer stands for one whole version of its data set's single history, and never an older one than its last; and whatever datagrams are
--- lost, repeated or reordered, each matched reader that goes by numbers holds exactly the published version that the unbroken run of its arrivals from a key frame
--- names, or has said why it waits, and one that ignores numbers the row of the last key frame that came since it was cut last: where its read group takes nothing but
--- what was sent, whatever else comes. A matched reader whose read group does so, and to which the frame of its writer's closing turn came in one of the ways of
--- `ClosingComes`, is told to hold the row of the version that the closing tick sampled, cut to the reader's fields, and by numbers the version itself.
+-- Every data message of a writer stands for one whole version of its data set's single history, and never an older one than its last. A
+-- matched reader whose read group takes nothing but what was sent, whatever else comes, holds what follows, whatever datagrams are lost,
+-- repeated or reordered. One that goes by numbers holds exactly the published version that the unbroken run of its arrivals from a key
+-- frame names, or has said why it waits. One that ignores numbers holds the row of the last key frame that came since it was cut last. The
+-- frame of its writer's closing turn may have come to it in one of the ways of `ClosingComes`. Then it is told to hold the row of the
+-- version that the closing tick sampled, cut to the reader's fields, and by numbers the version itself.
 pub record TellsHeadline (p : Plan) (steps : List Step) (rows : ℕ → ℕ → List DataValue) (closed : Closed) : Type 0 where
   pub whole_versions : (g w : ℕ) (later before : List WriterDeed) (turn : WriterTurn) → w < length (group_at p.config g).writer
       → writer_deeds p g w steps ≡ later ++ HadTurn turn ∷ before

@@ -51,10 +51,10 @@ use writer_group::{
 };
 
 /// A reader that is matched to a writer, where every datagram that its read group takes was made by a turn of some group before,
-/// whatever else comes, and the writer has sent at most 65,536 data frames, or for what is kept and held 16,385: each item that
-/// comes to it is a frame that the writer answered, whatever datagrams are lost, repeated or reordered, whole or in chunks; what
-/// it keeps is what *Records* has of these items; and a row that it holds is that of a turn of the writer whose version the
-/// writer's log has, by numbers at the held number.
+/// whatever else comes. The writer has sent at most 65,536 data frames, or for what is kept and held 16,385. Then each item that
+/// comes to the reader is a frame that the writer answered, whatever datagrams are lost, repeated or reordered, whole or in
+/// chunks. What it keeps is what *Records* has of these items. A row that it holds is that of a turn of the writer whose version
+/// the writer's log has, by numbers at the held number.
 pub fn a_matched_reader_holds_what_was_sent()
     ensures comes { (most : ℕ) (p : Play) → most ≤ 65536 → IsPlay most p → ComesFromWriter p }
     ensures keeps { (p : Play) → IsPlay 16385 p
@@ -66,10 +66,9 @@ pub fn a_matched_reader_holds_what_was_sent()
 }
 
 /// Whatever datagrams of a session are lost, repeated or reordered, each matched reader whose read group takes nothing but what was
-/// sent reads by *Records*, and holds, where it goes by numbers, exactly the published version that the unbroken run of its arrivals
-/// from a key frame names: the row of the version that its writer's log
-/// has at the held number, cut to the reader's fields, which is that of the writer's turn whose data frame has this place, cut
-/// so.
+/// sent reads by *Records*. Where it goes by numbers it holds exactly the published version that the unbroken run of its arrivals
+/// from a key frame names. That is the row of the version that its writer's log has at the held number, cut to the reader's fields.
+/// It is the row of the writer's turn whose data frame has this place, cut so.
 pub fn matched_readers_hold_published_versions()
     ensures comes { (p : Plan) (r i g w : ℕ) (steps : List Step) → InSession p r i g w steps
         → ComesFrom p r i g w steps }
@@ -84,9 +83,9 @@ pub fn matched_readers_hold_published_versions()
 }
 
 /// Every data message of a writer stands for one whole version of its data set's single history, and never an older one than its
-/// last: up to each turn with a data frame the writer's frames publish the row of the turn's version, cut to the fields that the
-/// data set had then, and the versions of its log never fall, where those that are sampled of a data set don't; however many ticks
-/// come.
+/// last. Up to each turn with a data frame the writer's frames publish the row of the turn's version, cut to the fields that the
+/// data set had then. The versions of its log never fall, where those that are sampled of a data set don't. It is so however many
+/// ticks come.
 pub fn data_messages_stand_for_versions()
     ensures publish { (limit : ℕ) (p : Plan) (g w : ℕ) (steps : List Step)
         (rows : ℕ → ℕ → List DataValue) (later before : List WriterDeed) (turn : WriterTurn)
@@ -106,9 +105,10 @@ pub fn data_messages_stand_for_versions()
 }
 
 /// A reader that is enabled, of an operational read group, to which the last datagram of a pump brings a key frame, alone and
-/// taken, holds its row; where it is matched to a writer, its read group took nothing but what was sent, and the frame has the
-/// number of the last place in the writer's log, it holds that newest version: the version's row, cut to the reader's fields, at
-/// the number of that place. A closing turn is answered by a key frame, whose place and version are the last in the writer's log.
+/// taken, holds its row. Let it be matched to a writer, its read group have taken nothing but what was sent, and the frame have
+/// the number of the last place in the writer's log. Then it holds that newest version: the version's row, cut to the reader's
+/// fields, at the number of that place. A closing turn is answered by a key frame, whose place and version are the last in the
+/// writer's log.
 pub fn a_key_frame_that_comes_last_is_held()
     ensures held { (p : Plan) (r i : ℕ) (before : List Step) (entries : List Entry)
         (row : List DataValue) → BringsLast p r i before entries row
@@ -128,23 +128,24 @@ pub fn a_key_frame_that_comes_last_is_held()
     matched_readers_hold_published_versions();
 }
 
-/// Of read groups that took nothing but what was sent: where the last turn of a writer was a closing one, and its frame came to a
-/// matched reader that goes by numbers, since its last cut, the reader holds the turn's version: the version's row, cut to its
-/// fields, at the number of the last place in the writer's log, where this version stands; and this is the version that the
+/// Of read groups that took nothing but what was sent. The last turn of a writer was a closing one, and its frame came to a
+/// matched reader that goes by numbers, since its last cut. Then the reader holds the turn's version: the version's row, cut to
+/// its fields, at the number of the last place in the writer's log, where this version stands. This is the version that the
 /// closing tick sampled of the writer's data set. It does so at whatever place of a pump the frame came, however often, and
 /// whatever came before or after it (`came`). It came where, without security, each datagram of the turn with a part for the
-/// reader is one that the journal has as received in the pumps after it, in which read group and reader were enabled and
-/// operational, whole or in chunks, in whichever order (`received`). It came likewise to a secured read group that names the
-/// writer's group, whatever the read group has accepted before (`secured`); to one that names none where this took each of its
-/// datagrams once, and none of a higher token (`taken`).
+/// reader is one that the journal has as received in the pumps after it (`received`). Read group and reader were enabled and
+/// operational in these. The datagrams may have come whole or in chunks, and in whichever order. It came likewise to a secured
+/// read group that names the writer's group, whatever the read group has accepted before (`secured`). It came to one that names
+/// none where this took each of its datagrams once, and none of a higher token (`taken`).
 ///
-/// A reader with no numbering holds the row of this version, cut to its fields, where the frame came since its last cut,
-/// and no other key frame after it (`came_last`). It came so, whole or in chunks, where the pumps are all that are after the
-/// closing tick, and no other key frame came once all of its datagrams had come, to a read group that isn't secured, or that
-/// names the writer's group (`since_last`); to a secured one that may name no group where this took each of its datagrams, and
-/// none of a higher token, and no other key frame came once it had taken all of them (`taken_last`). Without security the
-/// datagram of a frame that isn't cut may come in pumps that begin anywhere after the turn, and it is enough that no other key
-/// frame came after one of its comings (`received_last`): a chunk that comes again brings nothing.
+/// A reader with no numbering holds the row of this version, cut to its fields, where the frame came since its last cut, and
+/// no other key frame after it (`came_last`). It came so, whole or in chunks, where the pumps are all that are after the
+/// closing tick, to a read group that isn't secured, or that names the writer's group (`since_last`). This asks that no other
+/// key frame came once all of its datagrams had come. To a secured one that may name no group it came where this took each of
+/// its datagrams, and none of a higher token (`taken_last`). This asks that no other key frame came once it had taken all of
+/// them. Without security the datagram of a frame that isn't in chunks may come in pumps that begin anywhere after the turn.
+/// It is enough that no other key frame came after one of its comings (`received_last`): a chunk that comes again brings
+/// nothing.
 ///
 /// The version of each closing turn is the one that the closing tick sampled of the writer's data set (`sampled`).
 pub fn a_closing_frame_that_came_is_held()
@@ -225,11 +226,11 @@ pub fn a_new_token_begins_with_key_frames()
 }
 
 /// Two courses of a session whose pumps differ in datagrams alone that read groups refuse where they stand, as where the second has
-/// further ones: the groups do the same and have as many sends done, each reader is the same and has the same stores, each read
-/// group takes the same datagrams with the same answers, and each component has the same state. So what a closed session tells
-/// of groups, writers and readers is the same; of read groups the counts of causes alone may differ, and of the link, where the
-/// second course has further datagrams alone and no pump ends at its limit, the count of received datagrams. Where a journal is
-/// another one with further receives, and no pump of either ends at its limit, both are divided into the same sends and pumps.
+/// further ones. The groups do the same and have as many sends done. Each reader is the same and has the same stores. Each read
+/// group takes the same datagrams with the same answers, and each component has the same state. So what a closed session tells of
+/// groups, writers and readers is the same. Of read groups the counts of causes alone may differ. Of the link the count of received
+/// datagrams may, where the second course has further datagrams alone and no pump ends at its limit. Where a journal is another one
+/// with further receives, and no pump of either ends at its limit, both are divided into the same sends and pumps.
 pub fn refused_datagrams_leave_no_trace_in_a_session()
     ensures groups { (p : Plan) (twins : List TwinStep)
         → deeds p (firsts twins) ≡ deeds p (seconds twins) }
@@ -265,8 +266,8 @@ pub fn refused_datagrams_leave_no_trace_in_a_session()
     refused_datagrams_leave_no_trace();
 }
 
-/// Of the switches, appends and ticks with their samples, and of the places of the pumps, a journal has one division into the
-/// sends and receives of a session: which sends were done and what each pump got can be read off it.
+/// For given switches, appends, ticks with their samples, and places of the pumps, a journal divides in one way alone
+/// into the sends and receives of a session. Which sends were done and what each pump got can be read off it.
 pub fn a_journal_has_one_run()
     ensures { (p : Plan) (first second : List Step) → HaveOneCourse first second → IsRun p first
         → IsRun p second → journal p first ≡ journal p second → first ≡ second }

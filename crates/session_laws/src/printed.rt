@@ -21,11 +21,11 @@ use crate::laws::{
     matched_readers_hold_published_versions,
 };
 
-/// What is told of a matched reader, whose read group took nothing but what was sent, when the session is closed: a row that it
-/// holds is that of the version that the told log of its writer has at the told number, cut to the reader's fields, and this
-/// version is told; it is the row of the writer's turn whose data frame has this place, cut so. Where it holds none, the reason
-/// is told; and always the number of its breaks, and the last eight. A reader to which the frame of its writer's closing turn
-/// came is told to hold the version that the closing tick sampled (`newest`).
+/// What is told of a matched reader, whose read group took nothing but what was sent, when the session is closed. A row that it
+/// holds is that of the version that the told log of its writer has at the told number, cut to the reader's fields. This
+/// version is told. The row is that of the writer's turn whose data frame has this place, cut so. Where it holds none, the
+/// reason is told; and always the number of its breaks, and the last eight. A reader to which the frame of its writer's closing
+/// turn came is told to hold the version that the closing tick sampled (`newest`).
 pub fn closed_sessions_tell_published_versions()
     ensures there { (p : Plan) (r i g w : ℕ) (steps : List Step) (closed : Closed)
         → InSession p r i g w steps → IsClosedAfter p steps closed

@@ -16,9 +16,9 @@ use ps_config::an_accepted_configuration_is_sound;
 use reader_group::{secured_readers_have_their_records, what_a_secured_group_takes_is_signed};
 
 /// A reader that goes by numbers, of a secured read group, is what *Arrivals* and *Records* say of it, however many messages its
-/// writer sends, where each datagram that came with a signature under a key of the ring was made by one sender: with a number
-/// under each token that rises with the places of the writer's messages; and where the places of its chunks are near. What comes
-/// without such a signature is no matter.
+/// writer sends. Each datagram that came with a signature under a key of the ring was made by one sender: with a number under
+/// each token that rises with the places of the writer's messages. The places of its chunks are near. What comes without such a
+/// signature is no matter.
 pub fn signed_readers_have_their_records()
     ensures { (m : Making) (setting : Setting) (way : Way) (events : List Event)
         → is_secured setting.setup.mode ≡ true → goes_by_numbers way ≡ true → SendsRise m.sent
@@ -31,7 +31,7 @@ pub fn signed_readers_have_their_records()
     what_a_secured_group_takes_is_signed();
 }
 
-/// In a session of a signed group, a fixed one and one whose frames come in two chunks, in which all that is sent comes, the
+/// In a session of a signed group, a fixed one and one whose frames come in two chunks, all that is sent comes. Then the
 /// premises are met for the reader of the signed group: the session's own sender made what comes with a signature.
 pub fn a_sessions_sender_makes_what_is_signed()
     ensures { (m : Making) × SendsRise m.sent

@@ -28,10 +28,10 @@ use reader_group::a_renewed_group_takes_no_pair_twice;
 use row_words::cut_rows_have_words;
 use writer_group::no_token_and_number_come_twice_in_groups;
 
-/// Every data message of a writer stands for one whole version of its data set's single history in a life too, and never an older one
-/// than its last, whichever rings renew the session's keys in between: up to each turn with a data frame the writer's frames publish
-/// the row of the turn's version, cut to the fields that the data set had then, and the versions of its log never fall, where those
-/// that are sampled of a data set don't; however many ticks come.
+/// Every data message of a writer stands for one whole version of its data set's single history in a life too, and never an older
+/// one than its last, whichever rings renew the session's keys in between. Up to each turn with a data frame the writer's frames
+/// publish the row of the turn's version, cut to the fields that the data set had then. The versions of its log never fall, where
+/// those that are sampled of a data set don't. It is so however many ticks come.
 pub fn data_messages_stand_for_versions_in_a_life()
     ensures publish { (limit : ℕ) (p : Plan) (g w : ℕ) (life : List Lived)
         (rows : ℕ → ℕ → List DataValue) (later before : List WriterDeed) (turn : WriterTurn)

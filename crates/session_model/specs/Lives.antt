@@ -1,5 +1,5 @@
--- What a session lives through where rings renew its keys, the latest first, and what becomes of it: as after steps alone, but that a key group's sender
--- and the read groups that share its keys go on with those of its last ring.
+-- What a session lives through where rings renew its keys, the latest first, and what becomes of it. It is as after steps alone, but that a
+-- key group's sender and the read groups that share its keys go on with those of its last ring.
 use Rattle.std.specs.Prelude.{◌≡◌, ◌<◌, ⊤, ℕ, ◌+◌, List, [], ◌∷◌, ◌++◌, length, map, zip, count_by, Bool, true, false, ◌||◌}
 use Rattle.pubsub_model.specs.Cadence.{log_of}
 use Rattle.dataset_writer.specs.Turns.{model_settings}

@@ -22,7 +22,7 @@ pub(crate) fn ring_with(tokens: &[(u32, u64)]) -> Result<Ring, Fail>
     }
 }
 
-/// The keys of a token: its four bytes begin each of them, and 5a stands after.
+/// The keys of a token: its four bytes begin each of them, and 5a follows.
 fn key_set(token: u32, from: u64) -> KeySet {
     let nonce = token.to_le_bytes();
     let mut signing = [0x5a; 32];

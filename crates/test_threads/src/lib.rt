@@ -1,5 +1,5 @@
-//! Threads that write beside one another; a crew at lists of writes and watches beside a job that stores; lanes over small makers, at
-//! a gate and at queues of one place and of many, and the command `lanes` past the same gate.
+//! Threads that write beside one another, and a crew at lists of writes and watches beside a job that stores. Lanes over small
+//! makers, at a gate and at queues of one place and of many, and the command `lanes` past the same gate.
 #![tactic(auto)]
 
 #[cfg(test)]

@@ -40,9 +40,9 @@ pub fn a_text_of_json_tells_its_lines()
     elements_are_read_one_way();
 }
 
-/// Two relays with the same configurations that have the same text tell the same of their gateways: of each writer the same places
-/// with the same stores; of each matched reader the same row with its number, its store and the version of this, or the same reason
-/// why there is none; and the same counts of the link.
+/// Two relays with the same configurations that have the same text tell the same of their gateways. Of each writer they tell the
+/// same places with the same stores. Of each matched reader they tell the same row with its number, its store and the version of
+/// this, or the same reason why there is none. They tell the same counts of the link.
 pub fn a_text_of_a_relay_tells_one_gateway()
     ensures { (first second : Config) (one other : Closed) (steps others : List Step)
         (kept stores : ℕ → List StoreVersion) (text : List ℕ) → IsReported first one

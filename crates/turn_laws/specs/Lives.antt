@@ -181,8 +181,9 @@ FitPolicy config k (Renewed keygroup sets ∷ before) =
 
 -- ---- all of it
 
--- A life of so many ticks beside the closing one, whose turns hold, and in which each datagram that the read group takes was sent before; over all rings of the
--- writer's key group, its configuration's among them, a token has the same keys, and those of the rings that renew it are as long as its policy says.
+-- A life of so many ticks beside the closing one, whose turns hold, and in which each datagram that the read group takes was sent before.
+-- Over all rings of the writer's key group, its configuration's among them, a token has the same keys. Those of the rings that renew it are
+-- as long as its policy says.
 pub record IsSignedLife (most : ℕ) (p : Plan) (r i g w k : ℕ) (life : List Lived) : Type 0 where
   pub plan : IsPlan p
   pub steps_are : AreStepsOf most p (steps_in life)

@@ -45,8 +45,8 @@ sender_by s (Moved now ∷ uses) = sender_by (turned s now) uses
 sender_by s (Renewed sets ∷ uses) = sender_by (renewed s sets) uses
 sender_by s (Made envelope payloads ∷ uses) = sender_by (after_turn s envelope payloads) uses
 
--- All that the groups of a key group sent is what its own sender made, in uses of which each was allowed when it came: they begin with the sender as the
--- configuration has it, and leave it where these deeds do. No two datagrams have the same token and number.
+-- All that the groups of a key group sent is what its own sender made, in uses of which each was allowed when it came. They begin with the
+-- sender as the configuration has it, and leave it where these deeds do. No two datagrams have the same token and number.
 pub record HasOneSender (config : Config) (k : ℕ) (deeds : List Deed) : Type 0 where
   pub uses : List SenderUse
   pub are : AreUses (opening_sender (keygroup_at config k)) uses
@@ -118,8 +118,8 @@ its_setting s = setting_by s.config s.readers
 abbrev pub its_way : Signing → Way
 its_way s = record { index = s.reader; seat = seat_at (its_setting s).seats s.reader; place = s.place }
 
--- The reader is matched to the writer, whose group is secured by the key group, and goes by numbers, whose 16 bits stand for the places that were sent; each
--- datagram that the read group took was made by the publisher's turns. Of what it refused nothing is asked.
+-- The reader is matched to the writer, whose group is secured by the key group. It goes by numbers, whose 16 bits stand for the places that
+-- were sent. Each datagram that the read group took was made by the publisher's turns. Of what it refused nothing is asked.
 pub record IsSigning (s : Signing) : Type 0 where
   pub sound : IsSound s.config
   pub there : slice_get s.config.group s.group ≡ Some (its_part s)

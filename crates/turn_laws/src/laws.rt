@@ -30,19 +30,19 @@ use reader_group::what_a_secured_group_takes_is_signed;
 use session_laws::{signed_readers_have_their_records, what_the_laws_below_say};
 use writer_group::no_token_and_number_come_twice_in_groups;
 
-/// Of a group alone, all of whose datagrams are under one token: over its turns, of however many datagrams each, the numbers of those
-/// in which a writer answered rise with the places of its answers, which rise by at most as much.
+/// Of a group alone, all of whose datagrams are under one token. Over its turns, of however many datagrams each, the numbers of
+/// those in which a writer answered rise with the places of its answers. The places rise by at most as much.
 pub fn numbers_of_a_group_rise_with_places()
     ensures { (config : Config) (group : GroupPart) (w used : ℕ) (past : List GroupDeed)
         → AreTurns config group past → w < length group.writer
         → RiseTogether (numbered_in group w used past) }
 {}
 
-/// So do the numbers that the sender of a key group gives under each token, whichever of the key group's groups have turns in between
-/// and whichever moments it comes to: in a session of however many ticks (`session`), in a life with whichever rings (`life`), and
-/// after any deeds whose turns are those of the definitions (`any`). Numbers that rise so name the places: in a datagram that was
-/// sent, its token and number and the 16 bits of the place tell it (`names`, `numbers`); in a session of fewer than 65,536 ticks the
-/// 16 bits alone do, from the writer's first number on (`first`).
+/// So do the numbers that the sender of a key group gives under each token, whichever of the key group's groups have turns in
+/// between and whichever moments it comes to. It is so in a session of however many ticks (`session`), in a life with whichever
+/// rings (`life`), and after any deeds whose turns are those of the definitions (`any`). Numbers that rise so name the places. In a
+/// datagram that was sent, its token and number and the 16 bits of the place tell it (`names`, `numbers`). In a session of fewer
+/// than 65,536 ticks the 16 bits alone do, from the writer's first number on (`first`).
 pub fn numbers_rise_with_places_over_all_turns()
     ensures session { (p : Plan) (k g w : ℕ) (steps : List Step) → IsPlan p
         → IsWriterUnder p.config k g w → SendsRise (sends_in p.config k g w (deeds p steps)) }
@@ -61,10 +61,10 @@ pub fn numbers_rise_with_places_over_all_turns()
         (sends_in p.config k g w (deeds p steps)) }
 {}
 
-/// All that the groups of a key group send is what its own sender makes of their turns, one after another, as it comes to the moments
-/// of ticks and whichever rings renew it: each use is allowed when it comes, they leave the sender where the session's deeds do, with
-/// the token and the number that it has then, and no token and number come twice. It is so in each session and each life whose turns
-/// hold, as those of a script do (`each_turn_of_a_session_holds`, `each_turn_of_a_life_holds`).
+/// All that the groups of a key group send is what its own sender makes of their turns, one after another, as it comes to the
+/// moments of ticks and whichever rings renew it. Each use is allowed when it comes. They leave the sender where the session's
+/// deeds do, with the token and the number that it has then. No token and number come twice. It is so in each session and each life
+/// whose turns hold, as those of a script do (`each_turn_of_a_session_holds`, `each_turn_of_a_life_holds`).
 pub fn one_sender_makes_what_a_key_group_sends()
     ensures session { (p : Plan) (k : ℕ) (steps : List Step) → IsPlan p → TurnsHold p steps
         → k < length p.config.keygroup → HasOneSender p.config k (deeds p steps) }
@@ -75,9 +75,9 @@ pub fn one_sender_makes_what_a_key_group_sends()
 }
 
 /// A read group is secured that is matched to a group with a key group (`secured`), and what it takes is signed under a key that it
-/// has. So where turns made each datagram that came signed, they made each that it took (`made`); and where the link delivers nothing
-/// else that is signed so, they made each that came signed (`session`), and the read group takes nothing but what was sent: so in a
-/// life with whichever rings (`life`), and in a session by `an_honest_link_delivers_what_was_sent`.
+/// has. So where turns made each datagram that came signed, they made each that it took (`made`). Where the link delivers nothing
+/// else that is signed so, they made each that came signed (`session`), and the read group takes nothing but what was sent. It is
+/// so in a life with whichever rings (`life`), and in a session by `an_honest_link_delivers_what_was_sent`.
 pub fn what_is_taken_came_signed()
     ensures secured { (config : Config) (readers : ReadGroupPart) (reader g w k : ℕ) → IsSound config
         → IsWriterUnder config k g w → IsMatchedTo config readers reader (group_at config g) w
@@ -97,15 +97,15 @@ pub fn what_is_taken_came_signed()
 }
 
 /// What a secured read group takes was made by the sender of the key group that it names, under each token with numbers that rise
-/// with the places of the messages of a writer: of whatever deeds of a publisher whose turns are those of the definitions, where
-/// these made each datagram that the read group takes; and so was all that came under a signature of its ring, where they made that
-/// (`made`). It is said for a reader that is matched to the writer and goes by numbers, whose 16 bits stand for the places that were
-/// sent. Such are those of a session of however many ticks, whose turns hold, and in which the read group takes nothing but what was
-/// sent (`session`). So such a reader is what *Arrivals* and *Records* say, with no premise on what a sender made, however many turns
-/// there were, where the places of its chunks are near: after any deeds, if besides each cut by hand is a restart and each number
-/// stands for a place with its 16 bits (`records`), and in a session, which cuts so alone (`session_records`). Each item that comes to
-/// the reader is an answer of the writer, at its place and cut to the reader's fields, however many data frames it sent (`comes`).
-/// Of what the read group refuses nothing is asked.
+/// with the places of the messages of a writer. It holds of whatever deeds of a publisher whose turns are those of the definitions,
+/// where these made each datagram that the read group takes. So was all that came under a signature of its ring, where they made
+/// that (`made`). It is said for a reader that is matched to the writer and goes by numbers, whose 16 bits stand for the places
+/// that were sent. Such are those of a session of however many ticks, whose turns hold, and in which the read group takes nothing
+/// but what was sent (`session`). So such a reader is what *Arrivals* and *Records* say, however many turns there were, where the
+/// places of its chunks are near. No premise is on what a sender made. It is so after any deeds, if besides each cut by hand is a
+/// restart and each number stands for a place with its 16 bits (`records`), and in a session, which cuts so alone
+/// (`session_records`). Each item that comes to the reader is an answer of the writer, at its place and cut to the reader's fields,
+/// however many data frames it sent (`comes`). Of what the read group refuses nothing is asked.
 pub fn what_came_signed_was_made_by_its_sender()
     ensures made { (s : Signing) → IsSigning s → IsMadeBySender s }
     ensures session { (most : ℕ) (p : Plan) (r i g w k : ℕ) (steps : List Step)
@@ -122,13 +122,14 @@ pub fn what_came_signed_was_made_by_its_sender()
     signed_readers_have_their_records();
 }
 
-/// So in a life, in which rings renew a key group's sender and the read groups that share its keys, at any moments and however many.
-/// Where a read group takes nothing but what was sent, this was made by that sender, and so was all that came under a signature of the
-/// ring that the read group has then, where the link delivers nothing else that is signed so (`made`); and a reader that is matched
-/// to a writer and goes by numbers is what *Arrivals* and *Records* say, each datagram read with the keys of its time, where the
-/// places of its chunks are near (`records`). Each item that comes to it is an answer of the writer, at its place (`comes`). The rings for that key group owe that a token has the same keys in each of them, its
-/// configuration's among them, and that these are as long as its policy says; that the tokens of all rings have 32 bits
-/// `each_turn_of_a_life_holds` asks for its turns.
+/// So in a life, in which rings renew a key group's sender and the read groups that share its keys, at any moments and however
+/// many. Where a read group takes nothing but what was sent, this was made by that sender. So was all that came under a signature
+/// of the ring that the read group has then, where the link delivers nothing else that is signed so (`made`). A reader that is
+/// matched to a writer and goes by numbers is what *Arrivals* and *Records* say, each datagram read with the keys of its time,
+/// where the places of its chunks are near (`records`). Each item that comes to it is an answer of the writer, at its place
+/// (`comes`). The rings for that key group owe that a token has the same keys in each of them, its configuration's among them, and
+/// that these are as long as its policy says. That the tokens of all rings have 32 bits `each_turn_of_a_life_holds` asks for its
+/// turns.
 pub fn what_came_signed_in_a_life_was_made_by_its_sender()
     ensures made { (most : ℕ) (p : Plan) (r i g w k : ℕ) (life : List Lived)
         → IsSignedLife most p r i g w k life → IsMadeBySenderIn p r i g w k life }

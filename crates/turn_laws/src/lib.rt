@@ -1,6 +1,6 @@
-//! Laws of the one sender of a key group, over all turns of its groups, whichever rings renew it: what it gave their datagrams, that it
-//! made what came signed, and that each new token begins with key frames; and of readers of sessions that are longer than a script's,
-//! and of what their cut logs tell.
+//! Laws of the one sender of a key group, over all turns of its groups, whichever rings renew it: what it gave their datagrams,
+//! that it made what came signed, and that each new token begins with key frames. Also laws of readers of sessions that are longer
+//! than a script's, and of what their cut logs tell.
 #![tactic(auto)]
 
 mod anew;

@@ -13,12 +13,12 @@ use session_laws::{
     a_matched_reader_holds_what_was_sent, each_turn_of_a_session_holds, what_the_laws_below_say,
 };
 
-/// What is said of matched readers of a script's session holds of longer ones, where each datagram that the read group takes was sent
-/// before, whole, in a slot or in chunks, and in whichever order, and where the versions that are sampled don't fall. Of up to
-/// 65,535 ticks beside the closing one: what comes is what the writer answered (`comes`). Of up to 16,384, in which all places are
-/// near, those of chunks too: the reader reads by *Records* (`records`), and a row that it holds is that of a turn of the writer whose
-/// version the writer's log has; where it goes by numbers that is the turn whose data frame the held number names (`holds`). Each
-/// session of a script for which the headline speaks of a reader is such a session (`scripts`).
+/// What is said of matched readers of a script's session holds of longer ones, where each datagram that the read group takes was
+/// sent before and the versions that are sampled don't fall. The datagrams may come whole, in a slot or in chunks, and in whichever
+/// order. Of up to 65,535 ticks beside the closing one: what comes is what the writer answered (`comes`). Of up to 16,384, in which
+/// all places are near, those of chunks too, the reader reads by *Records* (`records`). A row that it holds is that of a turn of
+/// the writer whose version the writer's log has. Where it goes by numbers that is the turn whose data frame the held number names
+/// (`holds`). Each session of a script for which the headline speaks of a reader is such a session (`scripts`).
 pub fn longer_sessions_are_read_by_records()
     ensures scripts { (p : Plan) (r i g w : ℕ) (steps : List Step) → InSession p r i g w steps
         → IsLongerSession most_ticks p r i g w steps }

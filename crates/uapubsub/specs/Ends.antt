@@ -57,8 +57,8 @@ uses_wire (Run script config) = true
 uses_wire (Relay script first second) = true
 uses_wire _ = false
 
--- The number is that of a status that says so, and the text of this status was written on the error output, whole where its count of faults didn't rise. old,
--- new: what this tells before and after; before, after: its counts of faults
+-- The number is that of a status that says so. The text of this status was written on the error output, whole where its count of faults
+-- didn't rise. old, new: what this tells before and after; before, after: its counts of faults
 pub record EndsAs (Says : Status → Type 0) (number : ℕ) (old new : Option (List ℕ)) (before after : ℕ) : Type 0 where
   pub status : Status
   pub numbered : number ≡ number_of status

@@ -39,14 +39,14 @@ abbrev pub TellsOne : Config → Closed → Option (List ℕ) → Option (List �
 TellsOne config closed old new = (before : List ℕ) (other : Closed) → old ≡ Some before → IsReported config other
     → new ≡ appended old (report_text config other) → AreToldAlike closed other
 
--- What was written is the report of a closed session of the accepted configuration and script; a link that tells a journal tells that of its steps. Each data
--- message of a writer stands for one whole version of its data set's single history, that of the script's writes, and never for an older one than the message
--- before; and whatever datagrams were lost, repeated or reordered, each matched reader whose read group takes nothing but what was sent holds, where it goes by
--- numbers, exactly the version that its unbroken run of messages names, or has said why it waits; and where it ignores numbers the row of the last key frame that
--- came since it was cut last. The report tells the threads of a legal order of writes that makes each history, and the closing tick sampled each history's last
--- version. Where it is told what was written before, any session of the configuration, with numbers of 64 bits, with whose report the same would have been
--- written is told as this one.
--- fates: whether the script may give datagrams fates; Performed: how it was performed
+-- What was written is the report of a closed session of the accepted configuration and script; a link that tells a journal tells that of
+-- its steps. Each data message of a writer stands for one whole version of its data set's single history, that of the script's writes, and
+-- never for an older one than the message before. A matched reader whose read group takes nothing but what was sent holds what follows,
+-- whatever datagrams were lost, repeated or reordered. Where it goes by numbers it holds exactly the version that its unbroken run of
+-- messages names, or has said why it waits. Where it ignores numbers it holds the row of the last key frame that came since it was cut
+-- last. The report tells the threads of a legal order of writes that makes each history, and the closing tick sampled each history's last
+-- version. It may be told what was written before. Then any session of the configuration, with numbers of 64 bits, with whose report the
+-- same would have been written is told as this one. fates: whether the script may give datagrams fates; Performed: how it was performed
 pub record WritesHeadline (fates : Bool) (Performed : Performance) (script_name : List ℕ) (config_name : Option (List ℕ)) (old new : Outside) (after : Wire) : Type 0 where
   pub config : Config
   pub script : Script

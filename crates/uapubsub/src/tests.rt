@@ -7,9 +7,9 @@ use std::sync::Wait;
 use std::test::Fail;
 use std::thread::Threads;
 
-/// The runs. The first line of each has the words; the file `s`, and after ` | ` each the files `c` and `d`, in which a slash is a
-/// line feed; the calls that fail, by their numbers from 0; and what the run shows. Below stands what it leaves: the output, the
-/// status, and the error output in brackets.
+/// The runs. The first line of each has the words. Then come the file `s`, and after ` | ` each the files `c` and `d`, in which a
+/// slash is a line feed. Then come the calls that fail, by their numbers from 0, and what the run shows. Below stands what it
+/// leaves: the output, the status, and the error output in brackets.
 const RUNS: &str = "play s; write 0 demo a=7/tick 100/; none; a report
 history demo 1: 0
 group g1 operational sent 2

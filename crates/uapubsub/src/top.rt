@@ -22,10 +22,10 @@ use std::sync::Wait;
 use std::thread::Threads;
 use ua_base::{Folder, Gate, Link, Sink};
 
-/// Does all that the program does, and answers the status that it ends with:
-/// 0 the report or the answer was written, 2 the words have no shape, 3 the configuration was refused, 4 the script was
-/// refused, 5 a file could not be read, 6 the report or the answer could not be written, 7 memory ran out, 8 the link could
-/// not be opened, 9 a file is too long.
+/// Does all that the program does, and answers the status that it ends with. 0: the report or the answer was written. 2:
+/// the words have no shape. 3: the configuration was refused. 4: the script was refused. 5: a file could not be read. 6:
+/// the report or the answer could not be written. 7: memory ran out. 8: the link could not be opened. 9: a file is too
+/// long.
 ///
 /// Memory may run out at any time, and no clause says when. A write to `err` that fails changes no status.
 pub fn top<R: Threads + Wait + Sync, F: Folder, A: Link, B: Link, G: Gate, K: Sink, E: Sink>(
@@ -52,10 +52,10 @@ pub fn top<R: Threads + Wait + Sync, F: Folder, A: Link, B: Link, G: Gate, K: Si
         (wire_of B.told B.patience B.faults B.opened_with B.made B.openings wire.new)))
         result (E.written err.old) (E.written err.new) (E.faults err.old) (E.faults err.new) }
 
-    // Each data message stands for one whole version, and each matched reader that goes by numbers, and whose read group takes
-    // nothing but what was sent, holds the one that its messages name, or has said why it waits: of the history that the script's
-    // writes make in the order of its lines, or, where threads make them, of a legal one. A matched one that ignores numbers holds,
-    // under the same premise, the row of the last key frame that came since it was cut last.
+    // Each data message stands for one whole version. It is one of the history that the script's writes make in the order of its
+    // lines, or, where threads make them, of a legal one. Each matched reader that goes by numbers, and whose read group takes
+    // nothing but what was sent, holds the version that its messages name, or has said why it waits. A matched one that ignores
+    // numbers holds, under the same premise, the row of the last key frame that came since it was cut last.
     ensures played { (script : List ℕ) (config : Option (List ℕ))
         → shape_of words.now ≡ Some (Play script config) → result ≡ 0
         → WritesPlay script config

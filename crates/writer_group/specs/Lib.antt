@@ -3,8 +3,9 @@ pub mod Turns
 pub mod Payloads
 pub mod Envelopes
 pub mod Sealing
--- What the contracts of the public calls and the laws say beside it: where a group stands and what its turns ask, the limits, a writer's own part of
--- a turn, a group's part of the configuration, a sender that may be lent, the groups that share one, and what headers and counts ask.
+-- What the contracts of the public calls and the laws say beside it. It has where a group stands and what its turns ask, the limits, and a
+-- writer's own part of a turn. It has a group's part of the configuration, a sender that may be lent, the groups that share one, and what
+-- headers and counts ask.
 pub mod Standing
 pub mod Limits
 pub mod Answering

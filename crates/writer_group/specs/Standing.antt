@@ -59,8 +59,8 @@ pub record IsGroup (metas : ℕ → MetaData) (part : GroupPart) (past : List Gr
   pub made : group.made ≡ number_of_place (made_in past)
   pub moment : group.turned_at ≡ last_moment past
 
--- each writer may have so many turns more, the row that it keeps is of its meta, and some deeds leave it as it is: `IsGroup` with any past has that, so a
--- turn is allowed also where the past isn't told
+-- Each writer may have so many turns more, the row that it keeps is of its meta, and some deeds leave it as it is. `IsGroup` with any past
+-- has that, so a turn is allowed also where the past isn't told.
 pub record MayGoOn (metas : ℕ → MetaData) (part : GroupPart) (turns : ℕ) (group : Group) : Type 0 where
   pub left : All (λ writer. turns ≤ writer.left) group.writers.items
   pub holds : (writer : ℕ) → writer < vec_len group.writers → HoldsAt (HoldsRowOf (metas writer)) group.writers.items writer
@@ -125,8 +125,8 @@ pub record MayTick (config : Config) (metas : List MetaData) (rows : List Sample
   pub goes_on : MayGoOn (metas_for part metas) part 1 group
   pub sender_is : IsSenderFor part sender
 
--- what of the conditions can be tested: there are as many rows as data sets and as many truth values as writers, each writer has a turn left, and the sender is
--- there exactly where the group is secured, and isn't spent
+-- What of the conditions can be tested. There are as many rows as data sets and as many truth values as writers. Each writer has a turn
+-- left. The sender is there exactly where the group is secured, and isn't spent.
 pub record IsInOrder (config : Config) (part : GroupPart) (rows : List Sampled) (on : List Bool) (sender : Option SenderState) (group : Group) : Type 0 where
   pub rows_are : length rows ≡ length config.dataset
   pub on_are : length on ≡ vec_len group.writers
@@ -233,8 +233,8 @@ IsDueInTime part past =
 abbrev pub MayTickAt : Config → List MetaData → List Sampled → List Bool → Option SenderState → Group → Type 0
 MayTickAt config metas rows on sender group = HoldsAt (MayTick config metas rows on sender group) config.group (index_of group)
 
--- it was made for its group of the configuration, and goes on with the metas of the configuration's data sets: so it may have a turn as soon as what the turn
--- is given is in order and a turn is left
+-- It was made for its group of the configuration, and goes on with the metas of the configuration's data sets. So it may have a turn as
+-- soon as what the turn is given is in order and a turn is left.
 pub record KeepsTo (config : Config) (group : Group) : Type 0 where
   pub index : index_of group < length config.group
   pub made : IsMadeAt config (index_of group) group

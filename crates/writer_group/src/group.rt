@@ -141,8 +141,9 @@ impl Group {
         now - now % interval
     }
 
-    /// Whether the group may have a turn of the configuration's data sets with these rows: one is there for each, and a truth value
-    /// for each writer, no writer has had all its turns, and the sender is there exactly where the group is secured, and isn't spent.
+    /// Whether the group may have a turn of the configuration's data sets with these rows. One row is there for each data set, and
+    /// a truth value for each writer. No writer has had all its turns. The sender is there exactly where the group is secured, and
+    /// isn't spent.
     pub fn may_tick(
         &self,
         config: &Config,
@@ -160,11 +161,11 @@ impl Group {
         self.is_in_order(config, part_of(config, self.index), rows, on, sender)
     }
 
-    /// A turn at the moment `now` (OPC 10000-14 6.2.6): the writers that are `on` answer with the rows sampled for their data sets,
-    /// whose metas now are `metas`, and their frames become datagrams in `out`, in place of those of the turn before. The sender,
-    /// where the group is secured, was turned to `now` and isn't spent; the metas of an accepted script leave room for the frames.
-    /// The answer is how many datagrams there are. `closing` where no other turn comes: each writer then sends a key frame, and
-    /// the turn doesn't count for `due`.
+    /// A turn at the moment `now` (OPC 10000-14 6.2.6). The writers that are `on` answer with the rows sampled for their data sets,
+    /// whose metas now are `metas`. Their frames become datagrams in `out`, in place of those of the turn before. The sender, where
+    /// the group is secured, was turned to `now` and isn't spent; the metas of an accepted script leave room for the frames. The
+    /// answer is how many datagrams there are. `closing` where no other turn comes: each writer then sends a key frame, and the
+    /// turn doesn't count for `due`.
     pub fn tick(
         &mut self,
         config: &Config,

@@ -83,9 +83,9 @@ fn number_if(holds: bool, number: u16) -> Option<u16>
 
 // The functions from here on give back what they are given. They are for the prover alone, as are `numbers_are_narrow` of
 // answering.rt with what it calls, and `a_class_id_is_whole` of settings.rt. The prover knows the range of a value from its type
-// where the value stands by itself, as an argument or as what a `match` takes out, and not where it stands inside an `Option` or
-// a variant that comes from elsewhere. So each takes its value apart, and its contract keeps what is seen there: how many bits a
-// number has, that a text is UTF-8, how many bytes an id has.
+// where the value stands by itself, as an argument or as what a `match` takes out. It doesn't where the value stands inside an
+// `Option` or a variant that comes from elsewhere. So each takes its value apart, and its contract keeps what is seen there: how
+// many bits a number has, that a text is UTF-8, how many bytes an id has.
 
 /// Each datagram carries its group's id.
 fn group_in(id: u16) -> Option<u16>

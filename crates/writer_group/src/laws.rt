@@ -9,9 +9,9 @@ ghost use Rattle.writer_group.specs.Standing.{IsDueInTime};
 ghost use Rattle.writer_group.specs.Turning.{AnswersFrame, HasWrittenHeaders, KeepsMaxSize, MakesBytes, MakesFewDatagrams, MakesOneOfEach, MakesSome, OfEachTurn, SendsKeyFrames};
 ghost use Rattle.writer_group.specs.Turns.{GroupDeed, is_refreshed, writer_past};
 
-/// No two datagrams of groups that share a sender are read with the same token and number, whatever the moments that it turns to and
-/// the rings that renew it, and whichever group makes the datagrams of a turn when, where each turn keeps its conditions: the sender
-/// has numbers for it, and its headers can be written.
+/// No two datagrams of groups that share a sender are read with the same token and number. It is so whatever the moments that it
+/// turns to and the rings that renew it, and whichever group makes the datagrams of a turn when. Each turn keeps its conditions:
+/// the sender has numbers for it, and its headers can be written.
 pub fn no_token_and_number_come_twice_in_groups()
     ensures { (s : SenderState) (uses : List SenderUse) → HaveNumbersOfTheirOwn s uses }
 {}
@@ -38,8 +38,8 @@ pub fn a_turn_with_a_frame_makes_a_datagram()
     ensures some { (config : Config) (part : GroupPart) → MakesSome config part }
 {}
 
-/// The headers of a turn's datagrams can be written, in a group of a sound configuration whose numbers are of their types: without a
-/// security header, or with that of a sender that can give fronts, whatever frames its writers have.
+/// The headers of a turn's datagrams can be written, in a group of a sound configuration whose numbers are of their types, whatever
+/// frames its writers have. They are without a security header, or with that of a sender that can give fronts.
 pub fn headers_of_a_turn_can_be_written()
     ensures { OfEachTurn HasWrittenHeaders }
 {}
