@@ -27,10 +27,10 @@ struct Run {
     out: Datagrams,
 }
 
-/// `turns` turns of the configuration's first group, and one more, the first of them with key frames. All writers are on, and where
-/// `changes` isn't 0 the middle field of each data set, of the kind UInt32, changes at each turn. The datagrams of the last turn are
-/// laid one after another into `last`, as far as it has room. Answers how many datagrams all turns made; 0 where nothing is
-/// measured.
+/// `turns` turns of the configuration's first group, and one more, the first of them with key frames. All writers are on, and
+/// where `changes` isn't 0 the middle field of each data set, of the kind UInt32, changes at each turn. The datagrams of the last
+/// turn are laid one after another into `last`, as far as it has room. Answers how many datagrams all turns made; 0 where nothing
+/// is measured.
 #[unsafe(no_mangle)]
 pub extern "C" fn bench_turns(
     alloc: Global,

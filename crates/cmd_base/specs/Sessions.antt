@@ -100,7 +100,7 @@ EndsBefore refusal fates tells script_name config_name (NotInLanes line) = Refus
 EndsBefore refusal fates tells script_name config_name Unopened = Takes refusal fates tells script_name config_name
 EndsBefore refusal fates tells script_name config_name status = EndsAccepting fates tells script_name config_name status
 
--- old, new: what the folder and the output tell before and after; after: what the link tells after
+-- old, new: what the folder and the output tell before and after; after: what the link tells then
 abbrev pub Says : Text → Refusal → Bool → Status → List ℕ → Option (List ℕ) → Outside → Outside → Wire → Type 0
 Says IsText refusal fates Done script_name config_name old new after =
     (text : List ℕ) × Writes IsText refusal fates old.file script_name config_name after text × (new.written ≡ appended old.written text)

@@ -21,8 +21,8 @@ pub struct Accepted {
     pub script: Script,
 }
 
-/// Reads and judges the configuration of this name, or takes the built-in one, and then the script of this name. Where links have no
-/// fates, a script that gives one is refused.
+/// Reads and judges the configuration of this name, or takes the built-in one, and then the script of this name. Where links have
+/// no fates, a script that gives one is refused.
 pub fn accept<'w, F: Folder>(
     alloc: Global,
     script: &'w str,

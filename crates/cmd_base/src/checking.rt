@@ -8,7 +8,7 @@ use crate::{Status, read_configuration, write_text};
 use std::alloc::Global;
 use ua_base::{Folder, Sink};
 
-/// Judges the configuration in the file of this name, and writes `ok` where it is accepted. It is handed nothing that could wait,
+/// Judges the configuration in the file of this name, and writes `ok` where it is accepted. It is given nothing that could wait,
 /// so it always returns.
 pub fn check<'w, F: Folder, K: Sink>(
     alloc: Global,

@@ -1,5 +1,5 @@
-//! What all commands share (words, statuses and their texts, how a configuration and a script are accepted, how a command ends), and the
-//! commands `check` and `play`.
+//! What all commands have in common (words, statuses and their texts, how a configuration and a script are accepted, how a
+//! command ends), and the commands `check` and `play`.
 #![tactic(auto)]
 
 mod accepting;

@@ -1,4 +1,4 @@
--- Which readers are told: those that are matched.
+-- Which readers are printed: those that are matched.
 use Rattle.std.specs.Prelude.{◌≡◌, ◌↔◌, ℕ, ◌<◌, length, true}
 use Rattle.ps_config.specs.declared.parts.Config.{Config}
 use Rattle.ps_config.specs.Sound.{IsSound}

@@ -1,4 +1,4 @@
-//! Which readers are told, and whose frames the lines have, each law the contract of a function that does nothing.
+//! Which readers are printed, and whose frames the lines have, each law the contract of a function that does nothing.
 ghost use Rattle.std.specs.Prelude.{List, Option, IsSome};
 ghost use Rattle.ua_base.specs.Journal.{LinkState};
 ghost use Rattle.ps_config.specs.declared.parts.Config.{Config};
@@ -15,7 +15,7 @@ ghost use Rattle.cmd_json.specs.Owned.{AreOwn};
 
 use session_laws::what_the_laws_below_say;
 
-/// Of an accepted configuration's unsecured read groups in a dynamic layout exactly those readers are told that are matched to a
+/// Of an accepted configuration's unsecured read groups in a dynamic layout exactly those readers are printed that are matched to a
 /// writer.
 pub fn matched_readers_are_told()
     ensures { (config : Config) → IsToldIfMatched config }

@@ -18,8 +18,8 @@ use dataset_meta::Name32;
 use key_service::{KeyFault, Keys, Request, Service};
 use ps_config::{Config, KeyGroupPart, ring_of};
 
-/// Asks the service of the security group, in the bytes of a request; reads its answer, in those of a reply; and tries each key where
-/// START is 0.
+/// Asks the service of the security group, in the bytes of a request; reads its answer, in those of a reply; and tries each key
+/// where START is 0.
 pub(crate) fn exchange(config: &Config, asked: &Asked) -> Result<Exchange, Refused>
     requires { IsSound config.now }
     ensures { IsExchange config.now asked.now result }
@@ -33,7 +33,7 @@ pub(crate) fn exchange(config: &Config, asked: &Asked) -> Result<Exchange, Refus
     exchange_with(config, group, asked)
 }
 
-/// The service is handed the request's bytes, and answers what it reads there.
+/// The service is given the request's bytes, and answers what it reads there.
 fn exchange_with(config: &Config, group: &Name32, asked: &Asked) -> Result<Exchange, Refused>
     requires sound { IsSound config.now }
     requires group { asked.now.group ≡ Some group.now }
@@ -53,7 +53,7 @@ fn exchange_with(config: &Config, group: &Name32, asked: &Asked) -> Result<Excha
     Ok(exchange_of(request, asked.start, &keys))
 }
 
-/// The puller is handed the reply's bytes, and tries what it reads there.
+/// The puller is given the reply's bytes, and tries what it reads there.
 fn exchange_of(request: ArrayVec<u8, 44>, start: u32, keys: &Keys) -> Exchange
     requires reply { IsReply keys.now }
     requires pullable { start ≡ 0 → IsPullable keys.now }

@@ -13,7 +13,7 @@ use std::alloc::Global;
 use ua_base::{Folder, NoMemory, Sink};
 
 /// Asks the key service of a security group for keys, the group being one of the configuration in the file of this name, and writes
-/// what it answers. It is handed nothing that could wait, so it always returns.
+/// what it answers. It is given nothing that could wait, so it always returns.
 pub fn keys<'w, F: Folder, K: Sink>(
     alloc: Global,
     config: &'w str,

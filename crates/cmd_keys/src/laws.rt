@@ -14,15 +14,15 @@ pub fn a_configuration_has_one_text()
         → TellsAnswer config asked one → TellsAnswer config asked other → one ≡ other }
 {}
 
-/// Each key that is tried opens: where the text tells what passed between the service and the puller, it tells what is answered, and
-/// of each key of an answer to START 0 that it opens.
+/// Each key that is tried opens: where the text tells what passed between the service and the puller, it tells what is answered,
+/// and of each key of an answer to START 0 that it opens.
 pub fn each_key_that_is_tried_opens()
     ensures { (config : Config) (asked : Asked) (text : List ℕ)
         → TellsExchange config asked text → TellsAnswer config asked text }
 {}
 
-/// A guard with the keys of a set, which accepted nothing, decrypts, and has first block 1, finds the four zero bytes in each datagram
-/// of them that was protected under the set.
+/// A guard with the keys of a set, which accepted nothing, decrypts, and has first block 1, finds the four zero bytes in each
+/// datagram of them that was protected under the set.
 pub fn what_is_protected_is_found()
     ensures { (guard : Guard) (set : KeySet) (datagram : List ℕ) → CanOpen guard set
         → IsProtected set datagram → FindsZeros (setup_of guard) datagram true }

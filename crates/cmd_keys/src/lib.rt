@@ -1,5 +1,5 @@
-//! The command `keys`: what the key service of a security group answers (OPC 10000-14 8.3.2, GetSecurityKeys), the group being one of
-//! a configuration, and that a guard over the pulled keys opens what is protected under them.
+//! The command `keys`: what the key service of a security group answers (OPC 10000-14 8.3.2, GetSecurityKeys), the group being
+//! one of a configuration, and that a guard over the pulled keys opens what is protected under them.
 #![tactic(auto)]
 
 mod answering;

@@ -15,7 +15,7 @@ use key_service::{Keys, a_read_answer_is_pulled_as_the_answer, pulled};
 use message_guard::{Guard, Mode};
 use uadp_header::read_header;
 
-/// Tries each key of an answer to START 0: a datagram is protected under it, and handed to a guard over the ring that a puller makes
+/// Tries each key of an answer to START 0: a datagram is protected under it, and given to a guard over the ring that a puller makes
 /// of the keys that it read.
 pub(crate) fn trials_of(keys: &Keys, back: &Keys) -> ArrayVec<Trial, 16>
     requires reply { IsReply keys.now }
@@ -51,7 +51,7 @@ fn each_trial(guard: &Guard, long: bool, sets: &[KeySet]) -> ArrayVec<Trial, 16>
     trials
 }
 
-/// Protects four zero bytes under the key, and hands them to the guard.
+/// Protects four zero bytes under the key, and gives them to the guard.
 fn trial_of(guard: &Guard, long: bool, set: &KeySet) -> Trial
     requires fresh { IsGuardOf [] guard.now }
     requires length { HasLength long set.now }

@@ -22,8 +22,8 @@ pub fn lanes_do_what_a_play_does()
         → deeds (plan_by config script) steps ≡ deeds (plan_by config script) (ticks_of script) }
 {}
 
-/// Two runs of lanes with one configuration that have the same text are told alike: as many datagrams of each group and of all were
-/// sent, as many couldn't be, and each writer has the same log.
+/// Two runs of lanes with one configuration that have the same text are described alike: as many datagrams of each group and of
+/// all were sent, as many couldn't be, and each writer has the same log.
 pub fn a_text_of_lanes_tells_one_run()
     ensures { (config : Config) (one other : Counts) (logs others : Logs)
         → HaveNumbers config one logs → HaveNumbers config other others

@@ -58,7 +58,7 @@ pub record Summarizes (n : ℕ) (after : Wire) (text : List ℕ) : Type 0 where
 
 -- ---- what each status says
 
--- old, new: what the output tells before and after; after: what the link tells after
+-- old, new: what the output tells before and after; after: what the link tells then
 abbrev pub Loads : Status → ℕ → Output → Output → Wire → Type 0
 Loads Done n old new after = (text : List ℕ) × Summarizes n after text × (new.written ≡ appended old.written text)
 Loads Unwritten n old new after = (text : List ℕ) × Summarizes n after text × AppendsPrefix old.written new.written text

@@ -106,7 +106,7 @@ abbrev pub EndsBefore : (List ℕ → ToldFile) → Names → Status → Type 0
 EndsBefore tells names Unopened = (accepted : Accepted) × Accepts tells names accepted
 EndsBefore tells names status = EndsAccepting tells names status
 
--- old, new: what the folder and the output tell before and after; lab, wire: what the links tell after
+-- old, new: what the folder and the output tell before and after; lab, wire: what the links tell then
 abbrev pub Says : Status → Names → Outside → Outside → Wire → Wire → Type 0
 Says Done names old new lab wire = (text : List ℕ) × Writes old.file names lab wire text × (new.written ≡ appended old.written text)
 Says Unwritten names old new lab wire = (text : List ℕ) × Writes old.file names lab wire text × AppendsPrefix old.written new.written text

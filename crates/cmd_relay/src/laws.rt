@@ -59,7 +59,7 @@ pub fn the_lines_of_a_gateway_tell_stores()
     a_kept_version_is_of_its_store();
 }
 
-/// The text of a relay tells one first session: two that have the same text, whatever the gateways did, are told alike.
+/// The text of a relay tells one first session: two that have the same text, whatever the gateways did, are described alike.
 pub fn a_text_of_a_relay_tells_one_session()
     ensures { (first second : Config) (one other : Closed) (steps others : List Step)
         (kept stores : ℕ → List StoreVersion) (text : List ℕ)

@@ -53,7 +53,7 @@ deeds_of first (step ∷ before) = deeds_by first.config step.call (publisher_af
 abbrev pub deeds_in : PublisherLife → List Deed
 deeds_in life = deeds_of life.first life.steps
 
--- no key group went on after numbers that were told
+-- no key group went on after numbers that were given
 abbrev pub IsNoResume : PublisherCall → Type 0
 IsNoResume (Resumed keygroup now used sets) = ⊥
 IsNoResume call = ⊤

@@ -27,9 +27,10 @@ ghost use Rattle.device_laws.specs.Turning.{past_in};
 use group_laws::{a_matched_reader_reads_its_writer, a_ring_makes_senders_of_its_key_group};
 use session_laws::a_matched_reader_holds_what_was_sent;
 
-/// What the clauses of a publisher's calls say makes each of them one of a life. A call that comes to a moment waits, or its groups do
-/// something (`came`). One that sets nothing (`unset`), or changes nothing (`refused`), is a refused one. `resume` goes on with a ring of
-/// the configuration's own key sets (`resumed`). The clauses of the other calls name the life's records as they stand.
+/// What the clauses of a publisher's calls say makes each of them one of a life. A call that comes to a moment waits, or its
+/// groups do something (`came`). One that sets nothing (`unset`), or changes nothing (`refused`), is a refused one. `resume` goes
+/// on with a ring of the configuration's own key sets (`resumed`). The clauses of the other calls name the life's records as they
+/// stand.
 pub fn each_call_is_a_step_of_a_life()
     ensures came { (now : ℕ) (next : Next) (old new : Publisher) → ComesTo now next old new
         → IsPublisherCall (Waited now) old new
@@ -43,9 +44,10 @@ pub fn each_call_is_a_step_of_a_life()
         × IsOwnRing old.config keygroup sets }
 {}
 
-/// Over all calls of a subscriber each of its read groups stands where the plain reading of what befell it does. That reads each datagram
-/// with the keys that the group had when it came (`stands`). So each reader in memory keeps what the plain reading keeps (`keeps`). Where
-/// no ring gave the read group other keys than its configuration's, this is the plain reading of its events (`plain`).
+/// Over all calls of a subscriber each of its read groups stands where the plain reading of what befell it does. That reads each
+/// datagram with the keys that the group had when it came (`stands`). So each reader in memory keeps what the plain reading keeps
+/// (`keeps`). Where no ring gave the read group other keys than its configuration's, this is the plain reading of its events
+/// (`plain`).
 pub fn a_subscriber_reads_what_came()
     ensures stands { (text : List ℕ) (life : SubscriberLife) (r : ℕ) → IsSubscriberLife text life
         → r < length life.first.config.readgroup → StandsAsRead life r }
@@ -55,12 +57,14 @@ pub fn a_subscriber_reads_what_came()
         → AreOwnKeys life.steps r (setting_in life r).setup.keys → ReadsPlainly life r }
 {}
 
-/// Over all calls of a publisher each datagram that it gave was made by a turn of one of its groups (`made`). Where each ring that it was
-/// given has the keys of its configuration, what its groups lived through are pasts by the definitions of a group (`pasts`).
+/// Over all calls of a publisher each datagram that it gave was made by a turn of one of its groups (`made`). Where each ring
+/// that it was given has the keys of its configuration, what its groups lived through are pasts by the definitions of a group
+/// (`pasts`).
 ///
-/// Each data set has one history of rows. The publisher has the last of them, and its version is the place of that (`history`). A turn of
-/// a writer has the whole row that the publisher had then, which is that of its version in the history (`rows`). Each data frame of a
-/// writer, with those before it, publishes this row (`publishes`). The versions in a writer's log never fall (`never_older`).
+/// Each data set has one history of rows. The publisher has the last of them, and its version is the place of that (`history`). A
+/// turn of a writer has the whole row that the publisher had then, which is that of its version in the history (`rows`). Each
+/// data frame of a writer, with those before it, publishes this row (`publishes`). The versions in a writer's log never fall
+/// (`never_older`).
 pub fn a_publisher_sends_turns_of_its_groups()
     ensures pasts { (text : List ℕ) (life : PublisherLife) (g : ℕ) (group : GroupPart)
         → IsPublisherLife text life → AreOwnRings (config_in life) life.steps
@@ -91,16 +95,18 @@ pub fn a_publisher_sends_turns_of_its_groups()
     a_ring_makes_senders_of_its_key_group();
 }
 
-/// A publisher of one configuration, and a subscriber of another or of the same. A reader of it is matched to a writer, and each datagram
-/// that its read group took had waited at the publisher. Whatever else came, and whichever datagrams were lost, repeated or reordered:
+/// A publisher of one configuration, and a subscriber of another or of the same. A reader of it is matched to a writer, and each
+/// datagram that its read group took had waited at the publisher. Whatever else came, and whichever datagrams were lost, repeated
+/// or reordered:
 ///
 /// - each item that came to the reader is a frame that the writer answered, at up to 65,536 data frames (`comes`)
 /// - at up to 16,385 what is kept for the reader is what *Records* has of these items, with why it waits where it does (`keeps`)
-/// - at up to 16,385 a row that it holds is the whole row of a version in the history of the writer's data set: that which the publisher
-///   had at the writer's turn whose data frame has the held number (`holds`), as the reader in memory tells it (`memory`)
+/// - at up to 16,385 a row that it holds is the whole row of a version in the history of the writer's data set: that which the
+///   publisher had at the writer's turn whose data frame has the held number (`holds`), as the reader in memory tells it
+///   (`memory`)
 ///
-/// A publisher that came to so many moments at most sent no more data frames than that (`few`). Of one configuration the read group with
-/// an index is one of such a pair (`one`).
+/// A publisher that came to so many moments at most sent no more data frames than that (`few`). Of one configuration the read
+/// group with an index is one of such a pair (`one`).
 pub fn a_paired_reader_holds_what_was_published()
     ensures comes { (text other : List ℕ) (pl : PublisherLife) (sl : SubscriberLife)
         (readers : ReadGroupPart) (r i g w most : ℕ) → ArePaired text other pl sl readers r i g w

@@ -15,8 +15,8 @@ pub struct Pair {
     pub subscriber: Subscriber,
 }
 
-/// Both are opened with the text, and the first field of the first data set is set. The publisher comes to this moment, in milliseconds,
-/// and its datagram comes to the first read group. None where there is no such field or read group, or no datagram.
+/// Both are opened with the text, and the first field of the first data set is set. The publisher comes to this moment, in
+/// milliseconds, and its datagram comes to the first read group. None where there is no such field or read group, or no datagram.
 pub fn run_once(
     alloc: Global,
     text: &[u8],

@@ -26,8 +26,8 @@ use session_laws::{
 };
 use turn_laws::{numbers_rise_with_places_over_all_turns, what_came_signed_was_made_by_its_sender};
 
-/// The deeds of a publisher over its calls are such as the laws of senders speak of. Each turn of a group is one by the definitions, with
-/// the sender that its key group had then (`own`), and each group lived through the same (`pasts`).
+/// The deeds of a publisher over its calls are such as the laws of senders speak of. Each turn of a group is one by the
+/// definitions, with the sender that its key group had then (`own`), and each group lived through the same (`pasts`).
 pub fn each_turn_of_a_publisher_has_its_sender()
     ensures own { (text : List ℕ) (life : PublisherLife) → IsPublisherLife text life
         → AreUnresumed life.steps → AreOwnRings (config_in life) life.steps
@@ -39,8 +39,9 @@ pub fn each_turn_of_a_publisher_has_its_sender()
     a_ring_makes_senders_of_its_key_group();
 }
 
-/// Of two devices that share a key group, the publisher's sender made what the read group took (`signing`, `made`). A matched reader that
-/// goes by numbers reads by *Records*, however many data frames the writer sent, where the places of its chunks are near (`records`).
+/// Of two devices that share a key group, the publisher's sender made what the read group took (`signing`, `made`). A matched
+/// reader that goes by numbers reads by *Records*, however many data frames the writer sent, where the places of its chunks are
+/// near (`records`).
 pub fn what_came_signed_was_made_by_the_publisher()
     ensures signing { (text other : List ℕ) (pl : PublisherLife) (sl : SubscriberLife)
         (readers : ReadGroupPart) (r i g w k : ℕ)
@@ -59,18 +60,18 @@ pub fn what_came_signed_was_made_by_the_publisher()
     what_came_signed_was_made_by_its_sender();
 }
 
-/// The headline of devices that last: of a reader of a secured group, by numbers or with no numbering, however many data frames its writer
-/// sent. Both sides may be renewed with whichever rings, as those that pull their keys from a service are. The rings owe that a token has
-/// the same keys in each of them, as long as the policy says. No key group of the publisher was resumed.
+/// The headline of devices that last: of a reader of a secured group, by numbers or with no numbering, however many data frames
+/// its writer sent. Both devices may be renewed with whichever rings, as those that pull their keys from a service are. The rings
+/// owe that a token has the same keys in each of them, as long as the policy says. No key group of the publisher was resumed.
 ///
-/// - each item that comes to the reader is an answer of the writer, at its place, each datagram read with the keys that the read group has
-///   when it comes (`comes`)
+/// - each item that comes to the reader is an answer of the writer, at its place, each datagram read with the keys that the read
+///   group has when it comes (`comes`)
 /// - what is kept for the reader is what *Records* has of these items, with why it waits where it does (`keeps`)
 /// - a row that it holds is the whole row of a version in the history of the writer's data set: that which the publisher had at the
 ///   writer's turn whose data frame has the held number, in 16 bits (`holds`)
 ///
-/// The last two ask that the places of the reader's chunks are near, which is so where none comes. With the rings of the configuration
-/// paired devices are such (`own`).
+/// The last two ask that the places of the reader's chunks are near, which is so where none comes. With the rings of the
+/// configuration paired devices are such (`own`).
 pub fn secured_readers_hold_whole_rows_at_any_length()
     ensures comes { (text other : List ℕ) (pl : PublisherLife) (sl : SubscriberLife)
         (readers : ReadGroupPart) (r i g w k : ℕ) (all : List KeySet)
@@ -94,10 +95,10 @@ pub fn secured_readers_hold_whole_rows_at_any_length()
     signed_readers_have_their_records();
 }
 
-/// Of such devices a row that any matched reader holds is the whole row of a version in the history of the
-/// writer's data set, also where key groups of the publisher were resumed (`holds`). It is so at up to 16,385 data frames, where the
-/// tokens of each key group are so few, 16 in all, that some key sets make one ring of them (`IsPulledPair`). The key sets that a
-/// configuration gives a key group make such a ring, which has their keys (`own`).
+/// Of such devices a row that any matched reader holds is the whole row of a version in the history of the writer's data set,
+/// also where key groups of the publisher were resumed (`holds`). It is so at up to 16,385 data frames, where the tokens of each
+/// key group are so few, 16 in all, that some key sets make one ring of them (`IsPulledPair`). The key sets that a configuration
+/// gives a key group make such a ring, which has their keys (`own`).
 pub fn readers_of_pulled_keys_hold_what_was_published()
     ensures holds { (text other : List ℕ) (pl : PublisherLife) (sl : SubscriberLife)
         (readers : ReadGroupPart) (r i g w k : ℕ) (sets : ℕ → List KeySet)

@@ -5,9 +5,9 @@ ghost use Rattle.writer_group.specs.Parts.{group_at};
 ghost use Rattle.group_laws.specs.Matching.{IsMatchedTo};
 ghost use Rattle.device_laws.specs.Small.{IsSmallRun, MeetsPremises};
 
-/// Two devices are opened with one text, and a field is set. The publisher comes to a moment that brings it a datagram, and this comes to
-/// a read group. For each reader of it that the configuration matches to a writer these calls are two lives that meet the premises of the
-/// laws, by the clauses of the calls alone, and whatever the read group answers.
+/// Two devices are opened with one text, and a field is set. The publisher comes to a moment that brings it a datagram, and this
+/// comes to a read group. For each reader of it that the configuration matches to a writer these calls are two lives that meet
+/// the premises of the laws, by the clauses of the calls alone, and whatever the read group answers.
 pub fn a_small_life_meets_the_premises()
     ensures { (text : List ℕ) (r i g w : ℕ) (run : IsSmallRun text r)
         → g < length run.first.config.group → r < length run.reads.config.readgroup

@@ -7,7 +7,7 @@ use std::env;
 use std::net::SocketAddrV4;
 use std::rt::Env;
 
-/// The greatest number that a program is told: the turns that a group of writers may have.
+/// The greatest number that a program is given: the turns that a group of writers may have.
 const MOST: u64 = 1 << 62;
 
 /// The programs that are called so.

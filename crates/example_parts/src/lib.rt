@@ -1,5 +1,5 @@
-//! What the programs example_publisher and example_subscriber share: their words, how they end, their configuration, their clock and
-//! their link.
+//! What the programs example_publisher and example_subscriber have in common: their words, how they end, their configuration,
+//! their clock and their link.
 #![tactic(auto)]
 
 mod calling;

@@ -9,8 +9,8 @@ use std::time::Duration;
 use ua_base::{Link, Opened};
 use udp_edge::UdpLink;
 
-/// An open link at this port that sends to the peer. A receive waits at most so long. Where the peer is of this machine, datagrams of
-/// other machines don't reach it.
+/// An open link at this port that sends to the peer. A receive waits at most so long. Where the peer is of this machine,
+/// datagrams of other machines don't reach it.
 pub fn link_to<'a, R: Net>(
     rt: &'a R,
     alloc: Global,

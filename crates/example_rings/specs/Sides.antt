@@ -1,4 +1,4 @@
--- The two sides of the session, between two calls.
+-- The two devices of the session, between two calls.
 use Rattle.device.specs.Sides.{IsPublisher, IsSubscriber}
 use Rattle.device.specs.declared.publisher.Publisher.{Publisher}
 use Rattle.device.specs.declared.subscriber.Subscriber.{Subscriber}

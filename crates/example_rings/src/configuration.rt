@@ -1,7 +1,7 @@
 //! What the device is.
 
-/// A publisher with one encrypted data set, and a reader of its messages. Key frames come at the start and with each new token alone.
-/// A key group has to name a key: token 0 is lower than each that the service gives, so nothing is sent or taken under it.
+/// A publisher with one encrypted data set, and a reader of its messages. Key frames come at the start and with each new token
+/// alone. A key group has to name a key: token 0 is lower than each that the service gives, so nothing is sent or taken under it.
 pub const CONFIGURATION: &str = r#"
 [publisher]
 id = "u8:33"

@@ -93,7 +93,7 @@ pub fn service_of(group: Name32) -> Result<Service, Fault> {
     }
 }
 
-/// The key with this index, made of its token's bytes so that a run can be told beforehand. A real service draws its keys at random.
+/// The key with this index, made of its token's bytes so that a run is known beforehand. A real service draws its keys at random.
 fn key_set(index: u32) -> KeySet {
     let token = index.saturating_add(1);
     let nonce = token.to_le_bytes();

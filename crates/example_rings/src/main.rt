@@ -1,7 +1,7 @@
-//! A device that keeps a key service in the place of a file: the publisher's sender and the subscriber's read group pull ten rings, one
-//! after another, while one session goes on (OPC 10000-14 8.3.2, GetSecurityKeys). While each ring stands the token rolls over, with
-//! datagrams of the old token on their way. A line for each ring tells what became of its datagrams, and the status is 0 where all of
-//! them are as expected.
+//! A device that keeps a key service in the place of a file: the publisher's sender and the subscriber's read group pull ten
+//! rings, one after another, while one session goes on (OPC 10000-14 8.3.2, GetSecurityKeys). While each ring stands the token
+//! rolls over, with datagrams of the old token on their way. A line for each ring tells what became of its datagrams, and the
+//! status is 0 where all of them are as expected.
 #![tactic(auto)]
 
 mod configuration;
@@ -16,7 +16,7 @@ use crate::tally::Tally;
 use std::alloc::Global;
 use std::process::ExitCode;
 
-/// How many rings each side pulls.
+/// How many rings each device pulls.
 const RINGS: u32 = 10;
 
 /// What becomes of the datagrams of a ring: the last one of the old token comes too late.
@@ -58,7 +58,7 @@ fn all_rings<R: Print>(rt: &R, session: &mut Session) -> Result<bool, Fault> {
     Ok(as_expected)
 }
 
-/// Each side pulls a ring, the turns come while it stands, and its line tells of them.
+/// Each device pulls a ring, the turns come while it stands, and its line tells of them.
 fn one_ring<R: Print>(rt: &R, session: &mut Session, index: u32) -> Result<Tally, Fault> {
     let from = session.pull()?;
     let tally = session.turns()?;

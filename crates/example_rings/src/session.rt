@@ -79,8 +79,8 @@ impl Session {
         })
     }
 
-    /// Each side pulls a ring by its own clock, and goes on with it. The answer is the token of the current key. What was sent under
-    /// the token before has come by now: the new rings lack it.
+    /// Each device pulls a ring by its own clock, and goes on with it. The answer is the token of the current key. What was sent
+    /// under the token before has come by now: the new rings lack it.
     pub fn pull(&mut self) -> Result<u32, Fault> {
         let now = self.moment();
         let own = ring_for_sender(&self.publisher, &self.service, &self.group, now)?;

@@ -105,8 +105,8 @@ pub fn what_is_stored_was_published()
     matched_readers_hold_published_versions();
 }
 
-/// A matched reader that goes by numbers, whose read group takes nothing but what was sent, and that isn't cut between two moments of a
-/// session, doesn't hold an older version at the later one than at the earlier.
+/// A matched reader that goes by numbers, whose read group takes nothing but what was sent, and that isn't cut between two
+/// moments of a session, doesn't hold an older version at the later one than at the earlier.
 pub fn an_uncut_reader_never_holds_an_older_version()
     ensures { (p : Plan) (r i g w : ℕ) (later now : List Step) (one other : ℕ)
         → InSession p r i g w (later ++ now)
@@ -241,8 +241,8 @@ pub fn a_gateway_tells_the_first_history()
     a_matched_reader_reads_its_writer();
 }
 
-/// In a gateway nothing is ever switched: its groups and writers are Operational unless their sender is spent, whatever sends failed,
-/// and its read groups always are. So it needs no tree of states.
+/// In a gateway nothing is ever switched: its groups and writers are Operational unless their sender is spent, whatever sends
+/// failed, and its read groups always are. So it needs no tree of states.
 pub fn a_gateway_has_all_enabled()
     ensures none { (relay : List RelayStep) → switches_in (seconds relay) ≡ [] }
     ensures on { (config : Config) (steps : List Step) (component : Component)

@@ -1,7 +1,7 @@
 //! The link behind a tap.
 use crate::line::JsonLine;
 
-/// A link that is lent to a tap. It is handed on as one value, so that it is the same loan all along.
+/// A link that is lent to a tap. It is passed on as one value, so that it is the same loan all along.
 #[derive(Drop)]
 pub struct Inner<'a, L> {
     pub link: &'a mut L,

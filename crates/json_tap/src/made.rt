@@ -13,7 +13,7 @@ pub trait Made {
     /// The loan of the link.
     ghost loan: { ℕ };
 
-    /// What the link told.
+    /// What the link reported.
     ghost told: { Option LinkState };
 
     /// What it was opened with.

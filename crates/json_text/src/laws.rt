@@ -20,8 +20,8 @@ pub fn lines_are_read_as_their_messages()
         → parts ≡ parts_of messages }
 {}
 
-/// The frames that are read of lines for a reader can be arrivals with near places, and what it keeps of them is what *Records* says
-/// of all such.
+/// The frames that are read of lines for a reader can be arrivals with near places, and what it keeps of them is what *Records*
+/// says of all such.
 pub fn readers_keep_records()
     ensures { (config : Config) (lines : List (List ℕ)) (parts : List Part) (reader : ReaderPart)
         → ReadsLines config lines parts → HasRecords config parts reader }

@@ -19,7 +19,7 @@ use Rattle.lane_groups.specs.Deeds.{datagrams_by, plan_of}
 use Rattle.lane_groups.specs.Places.{HasPast, HasWriters, IsPlaceOf, IsRefreshedIf, IsShown, MayGo}
 use Rattle.lane_groups.specs.Lanes.{AreOfLane, IsSenderOf, MayAllGo, StandAt, is_in}
 
--- what is told of a turn
+-- what is given of a turn
 pub record IsTold (told : Told) : Type 0 where
   pub good : IsGood told.config.now
   pub metas_are : told.metas.now ≡ told.config.now.dataset

@@ -199,7 +199,7 @@ fn turn_at(turns: &[TurnIn], number: u32) -> &TurnIn
     &turns[number as usize]
 }
 
-/// What groups are told of a turn. No data set grows.
+/// What groups are given of a turn. No data set grows.
 fn told_of<'a>(config: &'a Config, turn: &'a TurnIn) -> Told<'a>
     ensures { IsToldBy result config.entry.now turn.entry.now }
 {

@@ -13,7 +13,7 @@ pub struct TurnIn {
     pub closing: bool,
 }
 
-/// What all lanes share.
+/// What all lanes have in common.
 #[derive(Clone, Copy)]
 pub struct Work<'a> {
     pub config: &'a Config,

@@ -21,9 +21,9 @@ pub fn a_pump_takes_all_that_waits()
         → TakesAll settings before entries }
 {}
 
-/// No beginning of a session's journal ends in 2^64 - 1 answers Nothing, since a session has 2^42 ticks at most beside the closing
-/// one, each with one pump at most, which ends with its first such answer. A link in memory that tells its journal tells it until so many stand in a row and one more comes
-/// (`tells` of its `receive`); so no receive of a session silences it.
+/// No beginning of a session's journal ends in 2^64 - 1 answers Nothing, since a session has 2^42 ticks at most beside the
+/// closing one, each with one pump at most, which ends with its first such answer. A link in memory that tells its journal tells
+/// it until so many stand in a row and one more comes (`tells` of its `receive`); so no receive of a session silences it.
 pub fn a_memory_link_tells_of_each_session()
     ensures { (limit : ℕ) (p : Plan) (steps : List Step) (first rest : List Entry) → limit ≤ 2 ^ 42
         → AreStepsOf limit p steps → IsRun p steps

@@ -47,14 +47,14 @@ pub fn a_report_reads_so()
     ensures text { report_text built_in_config first_run ≡ first_run_text }
 {}
 
-/// The same session with a reader whose numbering is `none`: neither a number is told nor a version, and dashes are printed.
+/// The same session with a reader whose numbering is `none`: neither a number is reported nor a version, and dashes are printed.
 pub fn an_unnumbered_report_reads_so()
     ensures closed { IsClosedOf unnumbered_config unnumbered_run }
     ensures told { TellsEnds unnumbered_config unnumbered_run }
     ensures text { report_text unnumbered_config unnumbered_run ≡ unnumbered_text }
 {}
 
-/// What is told goes by the configuration: a number exactly where the reader is numbered, and no version of another
+/// What is reported goes by the configuration: a number exactly where the reader is numbered, and no version of another
 /// program's.
 pub fn ends_go_by_the_configuration()
     ensures foreign { TellsEnds foreign_config foreign_run }
@@ -64,7 +64,7 @@ pub fn ends_go_by_the_configuration()
     ensures versioned { ¬ (TellsEnds foreign_config first_run) }
 {}
 
-/// Watches are told in the order of their threads.
+/// Watches are reported in the order of their threads.
 pub fn watches_are_told_by_thread()
     ensures in_order { TellsEnds built_in_config (watched_run 0 1) }
     ensures out_of_order { ¬ (TellsEnds built_in_config (watched_run 1 0)) }

@@ -42,7 +42,7 @@ pub record IsSwitch (config : Config) (before : List Line) (id : ℕ) (on : Bool
   pub there : id < length (component_names config)
   pub was : is_enabled id before ≡ on
 
--- the datagram until which one is held back, or that one comes again after
+-- the datagram until which one is held back, or after which one comes again
 abbrev pub last_of : Fate → ℕ
 last_of (fate.Hold after) = after
 last_of (fate.Again after) = after

@@ -5,7 +5,7 @@ ghost use Rattle.ps_script.specs.FaultNumbers.{number_of, fault_name};
 use std::error::Error;
 use std::fmt::{self, Display, Formatter, Write};
 
-/// What a line of a script is refused for. The fault that stands first here is told.
+/// What a line of a script is refused for. The fault that stands first here is reported.
 #[derive(Clone, Copy, Debug, PartialEq, Eq)]
 pub enum ScriptFault {
     /// A byte that isn't a space or a printable character of ASCII, in a comment too.
@@ -35,7 +35,7 @@ pub enum ScriptFault {
 }
 
 impl ScriptFault {
-    /// The number under which the fault is told.
+    /// The number under which the fault is reported.
     pub fn number(self) -> u8
         ensures { result ≡ number_of self }
     {
@@ -55,7 +55,7 @@ impl ScriptFault {
         }
     }
 
-    /// The name under which the fault is told.
+    /// The name under which the fault is reported.
     pub fn name(self) -> &'static str
         ensures { result.now ≡ fault_name self }
     {

@@ -1,4 +1,4 @@
-//! Lines `write`, judged and read at once. What is amiss with one that isn't read so is told
+//! Lines `write`, judged and read at once. What is amiss with one that isn't read so is reported
 //! elsewhere.
 ghost use Rattle.std.specs.Prelude.{◌≡◌, ◌<◌, ◌≤◌, true, length, IfSome};
 ghost use Rattle.ps_script.specs.Texts.{words_of};

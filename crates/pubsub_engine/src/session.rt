@@ -185,9 +185,9 @@ impl<'c> Session<'c> {
         self.round.tick(&told, link)
     }
 
-    /// Receives what came, until nothing waits, a receive fails or 65,536 datagrams were taken; each goes to each Operational read
-    /// group in order. Then each reader that holds the row of another number than its last store's, or without numbering another row,
-    /// is stored once.
+    /// Receives what came, until nothing waits, a receive fails or 65,536 datagrams were taken; each goes to each Operational
+    /// read group in order. Then each reader that holds the row of another number than its last store's, or without numbering
+    /// another row, is stored once.
     pub fn pump<R: Wait, L: Link>(&mut self, rt: &R, link: &mut L, targets: &Targets) -> Pumped
         requires open { IsSome (L.opened_with link.old) }
         requires may { MayPump self.old }

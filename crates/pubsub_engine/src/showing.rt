@@ -42,8 +42,8 @@ impl Session<'_> {
         self.round.tree.state_of(component)
     }
 
-    /// The reader with this index in a read group: the row that it holds and the number of that row's message, why it waits, and its
-    /// breaks with the last eight of them.
+    /// The reader with this index in a read group: the row that it holds and the number of that row's message, why it waits, and
+    /// its breaks with the last eight of them.
     pub fn reader(&self, read_group: u8, index: u8) -> &Reader
         requires session { IsSession self.now }
         requires there { read_group < length (plan_of self.now).config.readgroup }

@@ -19,13 +19,13 @@ is_enabled (Enable other ∷ before) id = if other == id then true else is_enabl
 is_enabled (Disable other ∷ before) id = if other == id then false else is_enabled before id
 is_enabled (change ∷ before) id = is_enabled before id
 
--- the last that was told of it; none has a fault at first
+-- the last that was reported of it; none has a fault at first
 abbrev pub has_fault : List Change → ℕ → Bool
 has_fault [] id = false
 has_fault (Fault other on ∷ before) id = if other == id then on else has_fault before id
 has_fault (change ∷ before) id = has_fault before id
 
--- the last that was told of it, or else what it is at first
+-- the last that was reported of it, or else what it is at first
 abbrev pub is_ready : Bool → List Change → ℕ → Bool
 is_ready at_first [] id = at_first
 is_ready at_first (Ready other on ∷ before) id = if other == id then on else is_ready at_first before id

@@ -3,7 +3,7 @@ ghost use Rattle.std.specs.Prelude.{◌≡◌};
 
 use crate::state::State;
 
-/// What is told of one component. With the state of the component above it, it gives the state.
+/// What is known of one component. With the state of the component above it, it gives the state.
 #[derive(Clone, Copy, Debug, PartialEq, Eq)]
 pub struct Flags {
     pub enabled: bool,

@@ -1,4 +1,4 @@
--- Readers are told by their names.
+-- Readers are named.
 use Rattle.std.specs.Prelude.{◌≢◌, map, All, AllPairs, IsTrue}
 use Rattle.dataset_meta.specs.Names.{is_name}
 use Rattle.ps_config.specs.declared.parts.Config.{Config}

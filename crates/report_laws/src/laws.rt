@@ -14,8 +14,8 @@ ghost use Rattle.report_laws.specs.Reported.{IsReported};
 
 use ps_report::a_report_reads_so;
 
-/// Two closed sessions of one configuration that have the same report are told alike: its histories, states, counts, logs, rows that
-/// are held with their numbers and versions, reasons, breaks, looks and counts of the link are those of both.
+/// Two closed sessions of one configuration that have the same report are described alike: its histories, states, counts, logs,
+/// rows that are held with their numbers and versions, reasons, breaks, looks and counts of the link are those of both.
 pub fn a_report_tells_one_session()
     ensures { (config : Config) (one other : Closed) → NamesReaders config → HasNumbers one
         → HasNumbers other → IsClosedOf config one → IsClosedOf config other
@@ -23,7 +23,7 @@ pub fn a_report_tells_one_session()
 {}
 
 /// Where what was written before a report is told, what is written with it tells its session: that of any other session with the
-/// same bytes is told alike.
+/// same bytes is described alike.
 pub fn what_is_written_tells_one_session()
     ensures { (config : Config) (one other : Closed) (before : List ℕ)
         → IsReported config one → IsReported config other
@@ -39,8 +39,8 @@ pub fn what_begins_with_a_report_tells_its_session()
         → front ++ rest ≡ back ++ others → AreToldAlike one other × (rest ≡ others) }
 {}
 
-/// Two closed sessions of the built-in configuration that have the same summary are told alike by it: their histories are as long,
-/// and their readers hold one row, or wait for one reason.
+/// Two closed sessions of the built-in configuration that have the same summary are described alike by it: their histories are as
+/// long, and their readers hold one row, or wait for one reason.
 pub fn a_summary_tells_one_row()
     ensures { (one other : Closed) (n ticks : ℕ)
         → IsReported built_in_config one → IsReported built_in_config other
@@ -49,7 +49,7 @@ pub fn a_summary_tells_one_row()
         → AreSummedAlike one other }
 {}
 
-/// And those that are told alike have the same report.
+/// And those that are described alike have the same report.
 pub fn a_report_is_of_what_it_tells()
     ensures { (config : Config) (one other : Closed) → AreToldAlike one other
         → report_text config one ≡ report_text config other }

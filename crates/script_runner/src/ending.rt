@@ -18,8 +18,8 @@ use std::sync::Wait;
 use target_cells::Targets;
 use ua_base::{Link, NoMemory};
 
-/// What each thread has seen meets what the session has, its watches are levelled, and then come the closing tick, its pump and the
-/// close.
+/// What each thread has seen is joined with what the session has, its watches are levelled, and then come the closing tick, its
+/// pump and the close.
 pub(crate) fn finish<R: Wait, L: Link>(
     rt: &R,
     alloc: Global,

@@ -12,8 +12,8 @@ use app_threads::closed_histories_are_legal;
 use row_words::{patched_words_belong, words_belong_by_shape};
 use version_cell::histories_are_the_models;
 
-/// The rows of a played script are those of legal histories of its threads' writes: in the history of a data set each thread has all
-/// of its writes there, in order, and these determine the row of every version.
+/// The rows of a played script are those of legal histories of its threads' writes: in the history of a data set each thread has
+/// all of its writes there, in order, and these determine the row of every version.
 pub fn a_played_script_writes_legal_histories()
     ensures { (config : Config) (script : Script)
         → IsScript config script → WritesLegally config script }

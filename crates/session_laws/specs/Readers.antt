@@ -1,4 +1,4 @@
--- A secured read group whose datagrams one sender made: what it has for a reader, told by datagrams.
+-- A secured read group whose datagrams one sender made: what it has for a reader, datagram by datagram.
 use Rattle.std.specs.Prelude.{◌≡◌, ⊤, ℕ, List, [], ◌∷◌, All, Contains, Result, Some, Ok, Err}
 use Rattle.chunker.specs.Chunks.{Chunk}
 use Rattle.chunker.specs.Joins.{IsCutOf}

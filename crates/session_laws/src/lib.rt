@@ -1,5 +1,5 @@
-//! Laws of sessions: what the matched readers of a session hold, where their read groups take nothing but what was sent, is what its
-//! writers published.
+//! Laws of sessions: what the matched readers of a session hold, where their read groups take nothing but what was sent, is what
+//! its writers published.
 #![tactic(auto)]
 
 mod laws;

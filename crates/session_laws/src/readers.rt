@@ -1,4 +1,4 @@
-//! Readers of a secured read group, told by datagrams.
+//! Readers of a secured read group, datagram by datagram.
 ghost use Rattle.std.specs.Prelude.{◌≡◌, true, List};
 ghost use Rattle.message_guard.specs.Modes.{is_secured};
 ghost use Rattle.reader_group.specs.Agreeing.{ChunksNear, IsWayOf, MemberIs, SendsRise};
@@ -16,9 +16,9 @@ use ps_config::an_accepted_configuration_is_sound;
 use reader_group::{secured_readers_have_their_records, what_a_secured_group_takes_is_signed};
 
 /// A reader that goes by numbers, of a secured read group, is what *Arrivals* and *Records* say of it, however many messages its
-/// writer sends. Each datagram that came with a signature under a key of the ring was made by one sender: with a number under
-/// each token that rises with the places of the writer's messages. The places of its chunks are near. What comes without such a
-/// signature is no matter.
+/// writer sends. It asks that each datagram that came with a signature under a key of the ring was made by one sender: with a
+/// number under each token that rises with the places of the writer's messages. It asks too that the places of its chunks are
+/// near. What comes without such a signature is no matter.
 pub fn signed_readers_have_their_records()
     ensures { (m : Making) (setting : Setting) (way : Way) (events : List Event)
         → is_secured setting.setup.mode ≡ true → goes_by_numbers way ≡ true → SendsRise m.sent

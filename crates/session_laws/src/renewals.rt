@@ -86,8 +86,8 @@ pub fn a_ring_has_short_tokens(ring: &Ring)
     let _sets = ring.key_sets();
 }
 
-/// A session of a signed group that a ring renews after its closing tick lives so: its plan, its steps, its samples and its ring are
-/// what the laws of a life ask for, and its key group is there.
+/// A session of a signed group that a ring renews after its closing tick lives so: its plan, its steps, its samples and its ring
+/// are what the laws of a life ask for, and its key group is there.
 pub fn a_signed_life_meets_the_premises()
     ensures plan { IsPlan three_plan }
     ensures steps { AreStepsOf most_ticks three_plan (steps_in renewed_life) }

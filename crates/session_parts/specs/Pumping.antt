@@ -64,7 +64,7 @@ HasReaders tree r count = (i : ℕ) → i < count → IsAmong tree.counts (Reade
 abbrev pub AreReadersOn : TreeValue → ℕ → ℕ → List Bool → Type 0
 AreReadersOn tree r count on = on ≡ map (λ i. (flags_in tree (Reader r i)).enabled) (range_with_len 0 count)
 
--- a read group may be handed a datagram
+-- a read group may be given a datagram
 pub record MayHand (config : Config) (tree : TreeValue) (r : ℕ) (subscriber : Subscriber) : Type 0 where
   pub good : IsGood config
   pub within : r < length config.readgroup
@@ -76,7 +76,7 @@ abbrev pub with_brought : Config → List Step → List ℕ → ℕ → (ℕ →
 with_brought config before datagram r befell q =
     if q == r then brought config before (Got datagram) q (befell q) else befell q
 
--- a datagram was handed to this read group
+-- a datagram was given to this read group
 abbrev pub Hands : Config → TreeValue → ℕ → ℕ → List ℕ → Subscriber → Subscriber → Type 0
 Hands config tree moment r datagram old new =
     (before : List Step) (from : ℕ → Reading) (befell : ℕ → List Event) → HasSwitches config before tree → moment ≡ moment_of before
@@ -94,13 +94,13 @@ pub record Counts (entry : Entry) (old new : Receiving) : Type 0 where
   pub long : new.long ≡ counted_if (is_long entry) old.long
   pub limit : new.limit ≡ old.limit
 
--- what a receive brought was handed on to the read groups
+-- what a receive brought was passed on to the read groups
 abbrev pub HandsOn : Config → Entry → TreeValue → ℕ → Subscriber → Subscriber → Type 0
 HandsOn config entry tree moment subscriber after =
     (before : List Step) (from : ℕ → Reading) (befell : ℕ → List Event) → HasSwitches config before tree → moment ≡ moment_of before
     → HaveGot config from befell subscriber → HaveGot config from (λ r. brought config before entry r (befell r)) after
 
--- one receive: its entry is told, and counted, and handed on
+-- one receive: its entry is told, and counted, and passed on
 pub record Receives (config : Config) (entry : Entry) (old new : Receiving) (subscriber after : Subscriber) (tree : TreeValue) (moment : ℕ) : Type 0 where
   pub is_receive : IsReceive entry
   pub counts : Counts entry old new
@@ -129,7 +129,7 @@ pub record PumpsTo (config : Config) (tree : TreeValue) (moment taken : ℕ) (ol
   pub taken_are : taken ≡ count_by is_datagram entries
   pub tells : Tells told later (λ x y. y.journal ≡ x.journal ++ entries)
 
--- ---- what the tree is told of readers
+-- ---- what the tree is informed of readers
 
 pub record TellsReaders (config : Config) (subscriber : Subscriber) (old new : TreeValue) : Type 0 where
   pub readers : (readings : ℕ → Reading) (r i : ℕ) → HaveReadings config readings subscriber.groups.items → IsAmong old.counts (Reader r i)

@@ -50,7 +50,7 @@ IsUnstepped config full round =
 
 -- ---- a tick
 
--- a tick of which this is told may come
+-- a tick of which this is given may come
 pub record MayTickRound (told : Told) (round : Round) : Type 0 where
   pub good : IsGood told.config.now
   pub holds : HoldRound told.config.now round
@@ -58,7 +58,7 @@ pub record MayTickRound (told : Told) (round : Round) : Type 0 where
   pub rows_are : AllZip (λ meta sampled. Belongs meta sampled.row.words) told.metas.now told.rows.now
   pub goes_on : MayAllGoOn told.config.now told.metas.now 1 round.publisher.groups.items
 
--- time came to the moment that is told, and with it senders and timers; no group had its turn
+-- time came to the given moment, and with it senders and timers; no group had its turn
 pub record RoundBegun (told : Told) (old new : Round) : Type 0 where
   pub moment : new.moment ≡ told.moment
   pub received : new.receiving ≡ old.receiving

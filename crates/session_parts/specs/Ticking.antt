@@ -155,7 +155,7 @@ abbrev pub TellsSoFar : TickData → List Deed → List Bool → Option LinkStat
 TellsSoFar t so_far done told =
     (link : LinkState) → told ≡ Some link → link.journal ≡ t.account.journal ++ send_entries (last_sends so_far) done
 
--- what all turns are told is that of the tick
+-- what all turns are given is that of the tick
 pub record IsToldOf (t : TickData) (told : Told) : Type 0 where
   pub config : told.config.now ≡ t.plan.config
   pub metas : told.metas.now ≡ metas_at t.plan.config t.before

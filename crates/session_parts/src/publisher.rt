@@ -1,4 +1,4 @@
-//! The publishing side: senders, groups with their turns, and what came of their sends.
+//! The publisher's part: senders, groups with their turns, and what came of their sends.
 ghost use Rattle.std.specs.Prelude.{◌≡◌, Some, None, ◌||◌, [], ◌≤◌, ◌<◌, ℕ, List, Bool, IsTrue, IsSome, IfSome, length, slice_index_or, take, vec_len, true, false};
 ghost use Rattle.dataset_meta.specs.Metas.{MetaData};
 ghost use Rattle.ua_base.specs.Links.{KeepsLink};
@@ -26,7 +26,7 @@ use pubsub_states::{Component, Tree, ids_are_places_in_order};
 use ua_base::{Link, Sent, Ticked};
 use writer_group::{Datagrams, Group, Sampled};
 
-/// The publishing side of a configuration (OPC 10000-14 6.2.6, WriterGroup).
+/// The publisher's part of a configuration (OPC 10000-14 6.2.6, WriterGroup).
 #[derive(Drop)]
 pub struct Publisher {
     /// Its groups, in its order.
@@ -41,7 +41,7 @@ pub struct Publisher {
     pub link: LinkSends,
 }
 
-/// What all groups are told of a tick.
+/// What all groups are given of a tick.
 #[derive(Clone, Copy)]
 pub struct Told<'a> {
     pub config: &'a Config,
@@ -199,7 +199,7 @@ impl Publisher {
     }
 
     /// The parts of all groups in a tick, in order, once the senders came to its moment. Want of memory comes from a send of
-    /// the link alone, and ends the tick there: the groups after have no turn.
+    /// the link alone, and ends the tick there: the groups after it have no turn.
     pub fn pass_all<L: Link>(&mut self, told: &Told<'_>, tree: &mut Tree, link: &mut L) -> Ticked
         requires open { IsSome (L.opened_with link.old) }
         requires may { MayPassAll told.now self.old tree.old }
@@ -225,7 +225,7 @@ impl Publisher {
     }
 
     /// The part of one group in a tick (OPC 10000-14 6.2.6, PublishingInterval): its turn, if it has one, and one send of each
-    /// datagram of it, in order; then the tree is told of faults. A send that fails is counted, and the next datagram is sent
+    /// datagram of it, in order; then the tree is informed of faults. A send that fails is counted, and the next datagram is sent
     /// all the same. Want of memory comes from a send of the link alone; the datagrams after it aren't sent.
     fn pass<L: Link>(&mut self, told: &Told<'_>, g: usize, tree: &mut Tree, link: &mut L) -> Ticked
         requires open { IsSome (L.opened_with link.old) }

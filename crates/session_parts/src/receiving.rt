@@ -55,7 +55,7 @@ impl Receiving {
     }
 
     /// Receives until nothing waits, a receive fails, or 65,536 datagrams were taken, those of more than 65,536 bytes included,
-    /// which are dropped. Each of the others is handed on to the Operational read groups at this moment, in milliseconds. The
+    /// which are dropped. Each of the others is passed on to the Operational read groups at this moment, in milliseconds. The
     /// answer is how many were taken, and whether the pump ended for that.
     pub fn pump<L: Link>(
         &mut self,
@@ -102,7 +102,7 @@ impl Receiving {
         }
     }
 
-    /// Receives once, counts it, and hands on what came. Whether a datagram was taken.
+    /// Receives once, counts it, and passes on what came. Whether a datagram was taken.
     fn receive<L: Link>(
         &mut self,
         config: &Config,
@@ -152,7 +152,7 @@ impl Receiving {
         link.receive(&mut self.buffer)
     }
 
-    /// A datagram of so many bytes stands at the front of the buffer: it is counted, and handed on.
+    /// A datagram of so many bytes stands at the front of the buffer: it is counted, and passed on.
     fn hand_on(
         &mut self,
         config: &Config,

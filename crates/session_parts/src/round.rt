@@ -23,8 +23,8 @@ use pubsub_states::{Component, Tree};
 use std::alloc::Global;
 use ua_base::{Link, NoMemory, Pumped, Ticked};
 
-/// A configuration at work over a link: the two sides, what they were told of the time, and their states. All memory was taken when
-/// it was opened.
+/// A configuration at work over a link: publisher and subscriber, the time that they were given, and their states. All memory was
+/// taken when it was opened.
 #[derive(Drop)]
 pub struct Round {
     /// Milliseconds since it was opened.
@@ -62,7 +62,7 @@ impl Round {
         })
     }
 
-    /// A tick: time comes to the moment that is told, then each group has its part. Want of memory comes from a send of the link
+    /// A tick: time comes to the given moment, then each group has its part. Want of memory comes from a send of the link
     /// alone, and ends the tick there.
     pub fn tick<L: Link>(&mut self, told: &Told<'_>, link: &mut L) -> Ticked
         requires open { IsSome (L.opened_with link.old) }
@@ -84,8 +84,8 @@ impl Round {
         self.publisher.pass_all(told, &mut self.tree, link)
     }
 
-    /// What comes before the groups' parts: time goes on, senders turn to it, timers expire, no group has a failed send any more, and
-    /// the tree is told.
+    /// What comes before the groups' parts: time goes on, senders turn to it, timers expire, no group has a failed send any more,
+    /// and the tree is informed.
     fn begin(&mut self, told: &Told<'_>)
         requires good { IsGood told.now.config.now }
         requires holds { HoldRound told.now.config.now self.old }

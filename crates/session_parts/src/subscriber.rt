@@ -1,4 +1,4 @@
-//! The subscribing side: read groups, and what they made of what came.
+//! The subscriber's part: read groups, and what they made of what came.
 ghost use Rattle.std.specs.Prelude.{◌≡◌, ◌≤◌, ◌<◌, length, take};
 ghost use Rattle.pubsub_model.specs.declared.reading.Why.TheVariants.{Restarted};
 ghost use Rattle.pubsub_states.specs.Components.{IsAmong, counts_of};
@@ -20,7 +20,7 @@ use pubsub_model::Why;
 use pubsub_states::{Component, Tree, ids_are_places_in_order};
 use reader_group::ReaderGroup;
 
-/// The subscribing side of a configuration (OPC 10000-14 6.2.8, ReaderGroup).
+/// The subscriber's part of a configuration (OPC 10000-14 6.2.8, ReaderGroup).
 #[derive(Drop)]
 pub struct Subscriber {
     /// Its read groups, in its order.

@@ -105,7 +105,7 @@ fn tick<R: Wait, L: Link>(rt: &R, device: &mut Device<'_>, link: &mut L) -> Resu
     Ok(())
 }
 
-/// A ring of these tokens renews the key group. The answer is as expected, and the getters tell what they told before.
+/// A ring of these tokens renews the key group. The answer is as expected, and the getters answer what they answered before.
 pub(crate) fn renew<R: Abort>(
     rt: &R,
     device: &mut Device<'_>,

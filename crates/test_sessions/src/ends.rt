@@ -4,9 +4,9 @@ use ps_report::{Break, Closed, GroupEnd, ReadGroupEnd, State};
 use std::process::Abort;
 use std::test::Fail;
 
-/// Five datagrams were sent, of which the second was refused and the fourth came last, and the versions 1 to 4, of which the closing
-/// tick sent the last again. The second message is missed. The fourth isn't, since the first datagram under a later token cuts the
-/// reader, whose run of messages begins anew.
+/// Five datagrams were sent, of which the second was refused and the fourth came last, and the versions 1 to 4, of which the
+/// closing tick sent the last again. The second message is missed. The fourth isn't, since the first datagram under a later token
+/// cuts the reader, whose run of messages begins anew.
 pub(crate) fn closes<R: Abort>(rt: &R, closed: &Closed, want: Expected) -> Result<(), Fail> {
     let state = State::Operational;
     let [group] = closed.groups.as_slice() else {
@@ -43,7 +43,7 @@ pub(crate) fn logs<R: Abort>(rt: &R, closed: &Closed, log: &[(u64, u64)]) -> Res
     Ok(())
 }
 
-/// The reader holds what the getters told, and its run of messages broke so.
+/// The reader holds what the getters answered, and its run of messages broke so.
 pub(crate) fn holds<R: Abort>(
     rt: &R,
     closed: &Closed,

@@ -14,8 +14,8 @@ use std::process::Abort;
 use std::sync::Wait;
 use std::test::Fail;
 
-/// After the closing tick, which is the second, takes no time and sends the row once more: the message has the next number, so it is
-/// stored again.
+/// After the closing tick, which is the second, takes no time and sends the row once more: the message has the next number, so it
+/// is stored again.
 const LAST: Expected = Expected {
     moment: 100,
     standing: (5, 2),
@@ -37,7 +37,8 @@ fn versions_are_told_up_to_65536_ticks(rt: HostRuntime) -> Result<(), Fail> {
     lasts(&rt, alloc, &config, 65_536, false)
 }
 
-/// A session in which so many ticks may come before the closing one, and one does. Its log keeps nine data frames, so it isn't whole.
+/// A session in which so many ticks may come before the closing one, and one does. Its log keeps nine data frames, so it isn't
+/// whole.
 fn lasts<R: Wait + Abort>(
     rt: &R,
     alloc: Global,

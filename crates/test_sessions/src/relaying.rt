@@ -77,7 +77,7 @@ fn tick<L: Link>(outlet: &mut Outlet<'_>, link: &mut L) -> Result<(), Fail>
     Ok(())
 }
 
-/// A ring of these tokens renews the key group. The answer is as expected, and the getters tell what they told before.
+/// A ring of these tokens renews the key group. The answer is as expected, and the getters answer what they answered before.
 pub(crate) fn renew<R: Abort>(
     rt: &R,
     outlet: &mut Outlet<'_>,

@@ -11,8 +11,8 @@ use std::process::Abort;
 /// The place of a token that isn't known among the causes of a report.
 const UNKNOWN_TOKEN: usize = 12;
 
-/// What the getters of a session are to tell, whose reader holds a row. Each datagram that was sent waits, was taken, or has a token
-/// that the read group doesn't know.
+/// What the getters of a session are to tell, whose reader holds a row. Each datagram that was sent waits, was taken, or has a
+/// token that the read group doesn't know.
 #[derive(Clone, Copy)]
 pub(crate) struct Expected {
     pub(crate) moment: u64,

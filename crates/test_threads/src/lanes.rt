@@ -1,4 +1,4 @@
-//! The command `lanes` past the gate: the first turns of two groups meet there, so their lanes run at once.
+//! The command `lanes` past the gate: the first turns of two groups wait for one another there, so their lanes run at once.
 use crate::meeting::Meeting;
 use cmd_lanes::lanes;
 use mem_edge::{MemoryFolder, MemoryLink, MemorySink, Name};

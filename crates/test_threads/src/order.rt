@@ -1,4 +1,4 @@
-//! A gate at which the lists and the job meet, and which notes what there is on both sides of each item.
+//! A gate at which the lists and the job wait for one another, and which notes what there is on both sides of each item.
 use std::alloc::Global;
 use std::sync::Wait;
 use std::sync::atomic::{AtomicU64, Ordering};

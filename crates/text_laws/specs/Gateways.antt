@@ -42,7 +42,7 @@ abbrev pub AreCountedAlike : Config → List Step → List Step → (Entry → B
 AreCountedAlike second steps others test =
     counted (count_by test (journal (plan_again second) steps)) ≡ counted (count_by test (journal (plan_again second) others))
 
--- each data frame of each writer has the same place and the same store; each matched reader is told alike; and as many datagrams were sent, couldn't be sent and
+-- each data frame of each writer has the same place and the same store; each matched reader is described alike; and as many datagrams were sent, couldn't be sent and
 -- were received
 pub record AreGatewaysAlike (second : Config) (steps others : List Step) (kept stores : ℕ → List StoreVersion) : Type 0 where
   pub logs : (g w : ℕ) → w < length (group_at second g).writer → log_at (plan_again second) g w steps ≡ log_at (plan_again second) g w others

@@ -24,9 +24,9 @@ pub fn a_line_of_json_is_one_line()
         → IsOneLine (line config number message) }
 {}
 
-/// Two runs of `json` with one configuration that have the same text have the same lines, and as many datagrams without one, where
-/// their links tell their journals. Read of the lines are the same parts, so each reader is told alike, and the frames that are read
-/// of the one are those that the other's writers answered.
+/// Two runs of `json` with one configuration that have the same text have the same lines, and as many datagrams without one,
+/// where their links tell their journals. Read of the lines are the same parts, so each reader is described alike, and the frames
+/// that are read of the one are those that the other's writers answered.
 pub fn a_text_of_json_tells_its_lines()
     ensures lines { (config : Config) (script other : Script) (told tells : Option LinkState)
         (text : List ℕ) → (one : IsJsonOf config script told text)

@@ -14,10 +14,11 @@ ghost use Rattle.turn_laws.specs.Anew.{IsRekeyedBy, answered_in, keyed_turns_in}
 
 use writer_group::a_refreshed_writer_sends_a_key_frame;
 
-/// In a life too, whichever rings renew a key group, in whichever order and with whichever tokens, a writer's first frame under each
-/// token is a key frame (`first`). So a writer of a group whose token changes at a tick answers with one at its next turn, at
-/// whichever later tick and after whichever further rings (`next`), and if it has a turn at that tick there (`at_once`). The turns
-/// that these clauses speak of are the writer's, with its answers (`turns`), which it gave to what it did in the life (`deeds`).
+/// In a life too, whichever rings renew a key group, in whichever order and with whichever tokens, a writer's first frame under
+/// each token is a key frame (`first`). So a writer of a group whose token changes at a tick answers with one at its next turn,
+/// at whichever later tick and after whichever further rings (`next`), and if it has a turn at that tick there (`at_once`). The
+/// turns that these clauses speak of are the writer's, with its answers (`turns`), which it gave to what it did in the life
+/// (`deeds`).
 pub fn a_new_token_begins_with_key_frames_in_a_life()
     ensures first { (p : Plan) (k g w : ℕ) (life : List Lived)
         → (group_at p.config g).keygroup ≡ Some k → w < length (group_at p.config g).writer

@@ -34,10 +34,11 @@ pub fn signed_sessions_meet_the_premises()
     each_turn_of_a_session_holds();
 }
 
-/// Lives of the three groups are such for the reader of the signed group. In one a ring with the key of the configuration and a later
-/// one renews the key group after the closing tick, before the pump gets all that the tick sent (`between`). In the other it does so
-/// after a tick at a second, and the closing tick is under the ring's later key: all that both send comes (`ringed`, `honest`), and
-/// their samples are rows of one history (`steps`, `rise`, `versions`). The signed group's writer had a turn under the configuration's token and then one under the ring's (`tokens`), to which that tick changed (`rekeyed`).
+/// Lives of the three groups are such for the reader of the signed group. In one a ring with the key of the configuration and a
+/// later one renews the key group after the closing tick, before the pump gets all that the tick sent (`between`). In the other
+/// it does so after a tick at a second, and the closing tick is under the ring's later key: all that both send comes (`ringed`,
+/// `honest`), and their samples are rows of one history (`steps`, `rise`, `versions`). The signed group's writer had a turn under
+/// the configuration's token and then one under the ring's (`tokens`), to which that tick changed (`rekeyed`).
 pub fn a_renewed_life_meets_the_premises()
     ensures between { IsSignedLife most_ticks three_plan 0 0 0 0 0 between_life }
     ensures ringed { IsSignedLife most_ticks three_plan 0 0 0 0 0 ringed_life }

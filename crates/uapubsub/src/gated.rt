@@ -37,8 +37,8 @@ fn item(thread: u32, k: u32) -> Item {
     Item { thread, k }
 }
 
-/// Runs the program with these words and this script past a gate, over links that lose nothing, and demands that no hold was missed.
-/// The answer is the report.
+/// Runs the program with these words and this script past a gate, over links that lose nothing, and demands that no hold was
+/// missed. The answer is the report.
 fn report_of<R: Threads + Wait + Sync>(
     rt: &R,
     alloc: Global,
@@ -201,8 +201,8 @@ fn each_look_counts_the_ticks_before_it(rt: HostRuntime) -> Result<(), Fail> {
     Ok(())
 }
 
-/// Each tick is held until both threads' write of its number and the watch after the tick before are answered, and each write and watch
-/// until the tick before it is done.
+/// Each tick is held until both threads' write of its number and the watch after the tick before are answered, and each write and
+/// watch until the tick before it is done.
 fn holds_of_two(alloc: Global) -> Result<Vec<(Item, Until)>, Fail> {
     let mut holds = Vec::new(alloc);
     for k in 0..3u32 {
@@ -236,7 +236,7 @@ fn each_data_set_and_reader_is_looked_at_anew(rt: HostRuntime) -> Result<(), Fai
     Ok(())
 }
 
-/// Two threads and the publisher meet, and each thread's last look is after the last tick.
+/// Two threads and the publisher wait for one another, and each thread's last look is after the last tick.
 fn holds_of_looks(alloc: Global) -> Result<Vec<(Item, Until)>, Fail> {
     let mut holds = Vec::new(alloc);
     holds.push((item(1, 0), Until::Came(item(2, 0))))?;

@@ -1,4 +1,4 @@
-//! The whole program over an outside that is handed in.
+//! The whole program over an outside that is passed in.
 ghost use Rattle.std.specs.Prelude.{◌≡◌, ◌≢◌, ◌↔◌, ◌≤◌, ℕ, List, Option, Some, None, true, false};
 ghost use Rattle.cmd_base.specs.Outside.{outside_of, wire_of};
 ghost use Rattle.cmd_base.specs.Statuses.{IsDone, IsUnwritten, number_of, text_of};

@@ -27,8 +27,8 @@ pub enum Command<'w> {
     Load {
         n: u32,
     },
-    /// To play the script in this file and write its messages in the JSON mapping, with the configuration in that file or the built-in
-    /// one.
+    /// To play the script in this file and write its messages in the JSON mapping, with the configuration in that file or the
+    /// built-in one.
     Json {
         script: &'w str,
         config: Option<&'w str>,

@@ -1,4 +1,4 @@
--- The payloads of a turn (Payloads, Chunks, Slots): its frames as they are spelled, packed into datagrams or cut into chunks, or laid into their slots.
+-- The payloads of a turn (Payloads, Chunks, Slots): its frames as they are spelled, packed into datagrams or split into chunks, or laid into their slots.
 use Rattle.std.specs.Prelude.{ℕ, List, [], ◌∷◌, ◌++◌, length, map, nat_lt, slice_index_or, false, if◌then◌else◌, Option, IfSome}
 use Rattle.std.specs.Int.{w16, to_le_bytes}
 use Rattle.std.specs.List.{flat_map}

@@ -20,7 +20,7 @@ abbrev pub advanced_by : Mode → SenderState → ℕ → SenderState
 advanced_by mode sender zero = sender
 advanced_by mode sender (suc count) = advanced mode (advanced_by mode sender count)
 
--- what all datagrams of a turn share: the publisher, the group's settings, and how many datagrams the group made before
+-- what all datagrams of a turn have in common: the publisher, the group's settings, and how many datagrams the group made before
 pub record Envelope : Type 0 where
   pub publisher : PublisherValue
   pub settings : HeaderSettings

@@ -60,7 +60,7 @@ pub record IsGroup (metas : ℕ → MetaData) (part : GroupPart) (past : List Gr
   pub moment : group.turned_at ≡ last_moment past
 
 -- Each writer may have so many turns more, the row that it keeps is of its meta, and some deeds leave it as it is. `IsGroup` with any past
--- has that, so a turn is allowed also where the past isn't told.
+-- has that, so a turn is allowed also where the past isn't known.
 pub record MayGoOn (metas : ℕ → MetaData) (part : GroupPart) (turns : ℕ) (group : Group) : Type 0 where
   pub left : All (λ writer. turns ≤ writer.left) group.writers.items
   pub holds : (writer : ℕ) → writer < vec_len group.writers → HoldsAt (HoldsRowOf (metas writer)) group.writers.items writer

@@ -75,7 +75,7 @@ is_due group past now = nat_le group.interval (now - last_moment past)
 
 -- ---- a turn
 
--- what a turn's writers are told: its moment, whether it is the closing one, and the metas of the moment with their sampled rows
+-- what a turn's writers are given: its moment, whether it is the closing one, and the metas of the moment with their sampled rows
 pub record Told : Type 0 where
   pub moment : ℕ
   pub closing : Bool

@@ -16,7 +16,7 @@ const BUFFER_BYTES: usize = 262_144;
 /// How many datagrams a turn makes at most.
 const MOST_DATAGRAMS: usize = 1024;
 
-/// The datagrams of a group's last turn. All groups of a configuration share it, and no turn takes memory.
+/// The datagrams of a group's last turn. All groups of a configuration use it, and no turn takes memory.
 #[derive(Drop)]
 pub struct Datagrams {
     // The frames of the turn stand in front, and after them the datagrams.

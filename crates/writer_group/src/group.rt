@@ -121,8 +121,8 @@ impl Group {
         u64::from(self.interval) <= now.saturating_sub(self.turned_at)
     }
 
-    /// The moment from which on the group is due: a publishing interval after the last turn that wasn't the closing one, or after moment
-    /// 0, in milliseconds. None where 64 bits don't hold it.
+    /// The moment from which on the group is due: a publishing interval after the last turn that wasn't the closing one, or after
+    /// moment 0, in milliseconds. None where 64 bits don't hold it.
     pub fn due_from(&self) -> Option<u64>
         ensures from { IfSome result (TellsDueFrom self.now) }
         ensures never { IfNone result (IsNeverDue self.now) }
@@ -130,9 +130,9 @@ impl Group {
         self.turned_at.checked_add(u64::from(self.interval))
     }
 
-    /// The moment for a turn that comes at `now`: the greatest multiple of the publishing interval that has passed, in milliseconds.
-    /// `due` counts from the moment of the last turn. So a turn that comes late gives `tick` this moment, and the next one is due at
-    /// the next multiple, however late this one came.
+    /// The moment for a turn that comes at `now`: the greatest multiple of the publishing interval that has passed, in
+    /// milliseconds. `due` counts from the moment of the last turn. So a turn that comes late gives `tick` this moment, and the
+    /// next one is due at the next multiple, however late this one came.
     pub fn moment_of(&self, now: u64) -> u64
         ensures moment { TellsMoment self.now now result }
         ensures passed { result ≤ now }

@@ -11,7 +11,7 @@ ghost use Rattle.writer_group.specs.Holding.{header_by, CanBeWritten};
 use ps_config::{GroupPart, Publisher, publisher_id};
 use uadp_header::{Header, Ids, PublisherId, SecurityPart};
 
-/// What the headers of a turn's datagrams share.
+/// What the headers of a turn's datagrams have in common.
 #[derive(Clone, Copy, Debug)]
 pub(crate) struct HeaderParts<'a> {
     pub publisher: PublisherId<'a>,

@@ -24,9 +24,9 @@ pub fn a_refreshed_writer_sends_a_key_frame()
     ensures whole { (part : GroupPart) (past : List GroupDeed) → SendsKeyFrames part past }
 {}
 
-/// No datagram of a turn of a good configuration is longer than its group's MaxNetworkMessageSize, whatever answers its writers have
-/// for metas that leave room, and with the signature where the group is secured, by a sender that isn't spent. A class id has 16
-/// bytes by its type.
+/// No datagram of a turn of a good configuration is longer than its group's MaxNetworkMessageSize, whatever answers its writers
+/// have for metas that leave room, and with the signature where the group is secured, by a sender that isn't spent. A class id
+/// has 16 bytes by its type.
 pub fn no_datagram_is_longer_than_max_size()
     ensures { (config : Config) (index : ℕ) → KeepsMaxSize config index }
 {}

@@ -122,7 +122,7 @@ impl<'a> Cargo<'a> {
         }
     }
 
-    /// Writes the payload of frames that share a datagram.
+    /// Writes the payload of frames in one datagram.
     #[inline(always)]
     fn put_frames(&self, pen: &mut Pen<'_>, first: u8, count: u8)
         requires cargo { IsCargo self.now }

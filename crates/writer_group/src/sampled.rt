@@ -1,4 +1,4 @@
-//! What a turn is told of a data set.
+//! What a turn is given of a data set.
 use row_words::Row;
 
 /// The row that a data set has at a moment, and its version: how many rows it had before.

@@ -31,7 +31,7 @@ pub(crate) fn settings_of(writer: &WriterPart) -> WriterSettings
 pub(crate) struct Rooms {
     /// For their payload, with one writer id in the header.
     pub frame: u32,
-    /// For a part of a frame that is cut into chunks.
+    /// For a part of a frame that is split into chunks.
     pub chunk: u32,
 }
 
