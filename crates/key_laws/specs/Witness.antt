@@ -95,7 +95,7 @@ small_guard = record {
   first_block = 0;
   high = None;
   window = record { high = 0; words = replicate 16 0 };
-  keys = record { items = map keys_in two_sets };
+  keys = map keys_in two_sets;
 }
 
 -- what this guard says of what the sender protects

@@ -100,7 +100,7 @@ all_four known low taken old a b c d = cc
 
 -- what a guard may accept is an acceptable pair
 pub pass_acceptable : (guard : Guard) (pass : Pass1) (accepted : Accepted) → is_secured guard.mode ≡ true → IsPassOf guard pass → IsGuardOf accepted guard
-    → is_acceptable guard.keys.items accepted pass.token pass.number ≡ true
+    → is_acceptable guard.keys accepted pass.token pass.number ≡ true
 pass_acceptable guard pass accepted secured may is =
     let below : (high : ℕ) → high_in accepted ≡ Some high → high ≤ pass.token = λ high at. may.not_lower secured high (is.high_is ∙ at) in
     let fresh : high_in accepted ≡ Some pass.token → IsFresh guard.window pass.number = λ at. may.fresh secured (is.high_is ∙ at) in

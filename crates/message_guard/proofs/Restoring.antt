@@ -151,9 +151,10 @@ sent_is_passed mode s keys accepted header payload may =
     let tests = tests_of (is_some (keys_with keys s.keys.token)) (nat_lt s.keys.token (highest accepted)) (is_taken numbers s.used) (is_too_old numbers s.used) may.acceptable in
     let not_lower : highest accepted ≤ s.keys.token = grind (arith, nat_tests, tests.not_low) in
     let fresh : seen numbers (number_in part.nonce) ≡ answers.Fresh = ap (λ (n : ℕ). seen numbers n) number ∙ seen_fresh numbers s.used tests.not_taken tests.not_old in
+    let right : is_signed (keys_with keys s.keys.token) datagram ≡ true = ap (λ (o : Option TokenKeys). is_signed o datagram) may.known ∙ signed_right mode s header payload in
     let passed : signed_pass part datagram ≡ sent_pass s header payload = sent_is_found mode s header payload (record { random = may.random; used = may.number }) in
     verdict_secured mode keys accepted part datagram (length header) may.secured (mode_fits mode s may.secured)
-    ∙ judged_secured keys accepted part datagram (length header) s.keys answers.Fresh (signed_pass part datagram) front may.known not_lower (signed_right mode s header payload) fresh
+    ∙ judged_secured keys accepted part datagram (length header) answers.Fresh (signed_pass part datagram) front (ap is_some may.known) not_lower right fresh
     ∙ ap Ok passed
 
 pub payload_restored : (mode : Mode) (s : SenderState) (keys : List TokenKeys) (header payload : List ℕ) → keys_with keys s.keys.token ≡ Some s.keys

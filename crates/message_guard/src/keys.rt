@@ -51,19 +51,6 @@ impl TokenKeys {
     }
 }
 
-impl Default for TokenKeys {
-    ghost is_default = { λ _. ⊤ };
-
-    fn default() -> TokenKeys {
-        TokenKeys {
-            token: 0,
-            nonce: [0; 4],
-            signing: SigningKey::new(&[0; 32]),
-            encrypting: Key::Short(Key128::new(&[0; 16])),
-        }
-    }
-}
-
 /// The nonce of a message.
 pub fn message_nonce(random: &[u8; 4], number: u32) -> [u8; 8]
     ensures { result ≡ message_nonce random.now number }

@@ -8,6 +8,7 @@ mod laws;
 mod mode;
 mod open_fault;
 mod pass;
+mod ring_keys;
 mod sender;
 
 pub use guard::Guard;

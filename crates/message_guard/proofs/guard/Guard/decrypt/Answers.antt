@@ -1,9 +1,6 @@
 use Rattle.std.proofs.Common.{◌≡◌, ◌++◌, sym, ◌∙◌, ap, take, drop, ℕ, List, false}
-use Rattle.std.specs.Option.{option_copied}
-use Rattle.std.specs.Prelude.{Option, None, slice_range}
+use Rattle.std.specs.Prelude.{slice_range}
 use Rattle.message_guard.specs.Protection.{keys_with, message_nonce}
-use Rattle.message_guard.specs.Opening.{without_stream}
-use Rattle.message_guard.specs.declared.keys.TokenKeys.{TokenKeys}
 use Rattle.message_guard.specs.Modes.{encrypts}
 use Rattle.message_guard.proofs.Lists.{three_parts}
 use Rattle.message_guard.proofs.Plain.{no_stream}
@@ -16,15 +13,5 @@ returns-then-not-encrypts c =
     let pass = c.args.pass.now in
     let off : encrypts guard.mode ≡ false = sym c.encrypts.ensures ∙ c.if-not-encrypts.true in
     sym (ap (λ (xs : List ℕ). take c.args.payload datagram ++ xs ++ drop pass.end datagram)
-    (no_stream guard.mode (keys_with guard.keys.items pass.token) (message_nonce pass.random pass.number) guard.first_block (slice_range datagram c.args.payload pass.end) off)
+    (no_stream guard.mode (keys_with guard.keys pass.token) (message_nonce pass.random pass.number) guard.first_block (slice_range datagram c.args.payload pass.end) off)
     ∙ three_parts datagram c.args.payload pass.end c.requires.order)
-
-pub returns-in_default : goal.returns-in_default
-returns-in_default c =
-    let datagram = c.args.datagram.now in
-    let pass = c.args.pass.now in
-    let none : keys_with c.args.self.now.keys.items pass.token ≡ None = sym c.keys_with.ensures ∙ ap option_copied c.in_default.is in
-    let made = λ (o : Option TokenKeys). take c.args.payload datagram
-    ++ without_stream c.args.self.now.mode o (message_nonce pass.random pass.number) c.args.self.now.first_block (slice_range datagram c.args.payload pass.end)
-    ++ drop pass.end datagram in
-    sym (three_parts datagram c.args.payload pass.end c.requires.order) ∙ sym (ap made none)

@@ -19,8 +19,8 @@ returns-in-Some-clause-verdict c =
     let secured : is_secured guard.mode ≡ true = sym c.is_secured.ensures ∙ c.if-is_secured.true in
     let fits : has_mode guard.mode (Some part) ≡ true =
     sym (ap (λ (o : Option (Bor SecurityPart)). has_mode guard.mode (security_told o)) c.in-Some.is) ∙ sym c.has_mode.ensures ∙ c.if-not-has_mode.false in
-    c.test_secured.ensures.verdict accepted is ∙ sym (verdict_secured guard.mode guard.keys.items accepted part datagram c.args.payload secured fits)
-    ∙ sym (ap (λ (o : Option (Bor SecurityPart)). verdict guard.mode guard.keys.items accepted (security_told o) datagram c.args.payload) c.in-Some.is)
+    c.test_secured.ensures.verdict accepted is ∙ sym (verdict_secured guard.mode guard.keys accepted part datagram c.args.payload secured fits)
+    ∙ sym (ap (λ (o : Option (Bor SecurityPart)). verdict guard.mode guard.keys accepted (security_told o) datagram c.args.payload) c.in-Some.is)
 
 not_both : (b : Bool) → b ≡ true → b ≡ false → ⊥
 not_both b is_true is_false = cc

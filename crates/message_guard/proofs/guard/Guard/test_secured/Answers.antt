@@ -1,6 +1,5 @@
 use Rattle.std.proofs.Common.{◌≡◌, ℕ, ◌≤◌, sym, ◌∙◌, ap, true, arith}
-use Rattle.std.specs.Prelude.{Some, Ok}
-use Rattle.std.specs.Option.{option_copied}
+use Rattle.std.specs.Prelude.{Ok, is_some}
 use Rattle.replay_window.specs.Taken.{seen}
 use Rattle.replay_window.specs.declared.seen.Seen.TheVariants as answers
 use Rattle.uadp_header.specs.Headers.{security_in}
@@ -15,30 +14,30 @@ pub returns-in-Fresh-clause-verdict : goal.returns-in-Fresh-clause-verdict
 returns-in-Fresh-clause-verdict c =
     λ accepted is.
     let part = security_in c.args.part.now in
-    let keys = c.args.self.now.keys.items in
+    let keys = c.args.self.now.keys in
     let datagram = c.args.datagram.now in
     let front : judged {X = Unit {0}} (front_refusals part datagram c.args.payload) tt ≡ Ok tt = sym c.test_front.ensures.verdict ∙ c.in_ok-test_front.was in
-    let known : keys_with keys part.token ≡ Some c.in-Some.keys.now = sym c.keys_with.ensures ∙ ap option_copied c.in-Some.is in
+    let known : is_some (keys_with keys part.token) ≡ true = sym c.has.ensures ∙ c.if-not-has.false in
     let top = c.highest-high.ensures.value accepted is in
     let not_lower : highest accepted ≤ part.token = omega (arith, c.if-got-high.false, top) in
-    let right : is_signed (Some c.in-Some.keys.now) datagram ≡ true = sym c.is_signed.ensures ∙ c.if-not-is_signed.false in
+    let right : is_signed (keys_with keys part.token) datagram ≡ true = sym c.is_signed.ensures ∙ c.if-not-is_signed.false in
     let number : c.signed_pass-pass.result.number ≡ number_in part.nonce = ap (λ (pass : Pass1). pass.number) c.signed_pass-pass.ensures in
     let says : seen (numbers_of accepted part.token) (number_in part.nonce) ≡ answers.Fresh =
     sym (ap (λ (n : ℕ). seen (numbers_of accepted part.token) n) number) ∙ sym (c.seen.ensures.value accepted is) ∙ c.in-Fresh.is in
-    ap Ok c.signed_pass-pass.ensures ∙ sym (judged_secured keys accepted part datagram c.args.payload c.in-Some.keys.now answers.Fresh (signed_pass part datagram) front known not_lower right says)
+    ap Ok c.signed_pass-pass.ensures ∙ sym (judged_secured keys accepted part datagram c.args.payload answers.Fresh (signed_pass part datagram) front known not_lower right says)
 
 pub returns-in-TooOld-clause-verdict : goal.returns-in-TooOld-clause-verdict
 returns-in-TooOld-clause-verdict c =
     λ accepted is.
     let part = security_in c.args.part.now in
-    let keys = c.args.self.now.keys.items in
+    let keys = c.args.self.now.keys in
     let datagram = c.args.datagram.now in
     let front : judged {X = Unit {0}} (front_refusals part datagram c.args.payload) tt ≡ Ok tt = sym c.test_front.ensures.verdict ∙ c.in_ok-test_front.was in
-    let known : keys_with keys part.token ≡ Some c.in-Some.keys.now = sym c.keys_with.ensures ∙ ap option_copied c.in-Some.is in
+    let known : is_some (keys_with keys part.token) ≡ true = sym c.has.ensures ∙ c.if-not-has.false in
     let top = c.highest-high.ensures.value accepted is in
     let not_lower : highest accepted ≤ part.token = omega (arith, c.if-got-high.false, top) in
-    let right : is_signed (Some c.in-Some.keys.now) datagram ≡ true = sym c.is_signed.ensures ∙ c.if-not-is_signed.false in
+    let right : is_signed (keys_with keys part.token) datagram ≡ true = sym c.is_signed.ensures ∙ c.if-not-is_signed.false in
     let number : c.signed_pass-pass.result.number ≡ number_in part.nonce = ap (λ (pass : Pass1). pass.number) c.signed_pass-pass.ensures in
     let says : seen (numbers_of accepted part.token) (number_in part.nonce) ≡ answers.TooOld c.in-TooOld.high =
     sym (ap (λ (n : ℕ). seen (numbers_of accepted part.token) n) number) ∙ sym (c.seen.ensures.value accepted is) ∙ c.in-TooOld.is in
-    sym (judged_secured keys accepted part datagram c.args.payload c.in-Some.keys.now (answers.TooOld c.in-TooOld.high) (signed_pass part datagram) front known not_lower right says)
+    sym (judged_secured keys accepted part datagram c.args.payload (answers.TooOld c.in-TooOld.high) (signed_pass part datagram) front known not_lower right says)
