@@ -16,6 +16,8 @@ pub mod LayoutLaws
 pub mod RowReading
 pub mod ScalarLaws
 pub mod Setting
+pub mod Passing
+pub mod FieldFaultLaws
 pub mod Laid
 pub mod Marks
 pub mod Clearing

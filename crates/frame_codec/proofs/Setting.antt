@@ -71,17 +71,17 @@ own_put quality encoding fields index field patch new word status bytes rest wit
     ∙ ap (λ (p : List (ℕ × DataValue)). Ok (p, rest)) (ap (λ (f : Field). put_in patch index (kept quality (scalar_in f.kind word) status)) (sym here) ∙ sym (set d))
 
 -- an index among the fields, or past them
-get_there : (fields : List Field) (index : ℕ) → index < length fields → (d : Field) → slice_get fields index ≡ Some (get_or fields index d)
+pub get_there : (fields : List Field) (index : ℕ) → index < length fields → (d : Field) → slice_get fields index ≡ Some (get_or fields index d)
 get_there [] index within d = absurd (omega arith)
 get_there (field ∷ fields) zero within d = refl
 get_there (field ∷ fields) (suc index) within d = get_there fields index (omega arith) d
 
-get_past : (fields : List Field) (index : ℕ) → length fields ≤ index → slice_get fields index ≡ None
+pub get_past : (fields : List Field) (index : ℕ) → length fields ≤ index → slice_get fields index ≡ None
 get_past [] index past = refl
 get_past (field ∷ fields) zero past = absurd (omega arith)
 get_past (field ∷ fields) (suc index) past = get_past fields index (omega arith)
 
-some_field : (fields : List Field) (index : ℕ) → index < length fields → Field
+pub some_field : (fields : List Field) (index : ℕ) → index < length fields → Field
 some_field [] index within = absurd (omega arith)
 some_field (field ∷ fields) index within = field
 

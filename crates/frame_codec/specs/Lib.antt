@@ -7,6 +7,7 @@ pub mod Contents
 pub mod Reading
 pub mod Wire
 pub mod Refusals
+pub mod FieldFaults
 pub mod Begins
 pub mod Calls
 pub mod FaultTexts

@@ -156,7 +156,7 @@ fn read_whole(
 }
 
 #[inline(always)]
-fn is_count(meta: &Meta, newer: bool, count: u16) -> bool
+pub(crate) fn is_count(meta: &Meta, newer: bool, count: u16) -> bool
     ensures { result ≡ is_count newer (length meta.now.fields) count }
 {
     let fields = meta.fields().len();
@@ -365,7 +365,7 @@ fn read_any_into(
 
 /// A Variant, whose status is Good, or a DataValue.
 #[inline(always)]
-fn read_value(cursor: &mut Cursor<'_>, encoding: u8) -> Result<Measured, FrameFault>
+pub(crate) fn read_value(cursor: &mut Cursor<'_>, encoding: u8) -> Result<Measured, FrameFault>
     ensures { ReadsAhead result cursor.old cursor.new (value_at encoding) }
 {
     if encoding == VARIANT {
@@ -379,7 +379,7 @@ fn read_value(cursor: &mut Cursor<'_>, encoding: u8) -> Result<Measured, FrameFa
 
 /// A value that is there, and fits its field.
 #[inline(always)]
-fn suited(value: Option<Value>, field: &Field) -> Result<Value, FrameFault>
+pub(crate) fn suited(value: Option<Value>, field: &Field) -> Result<Value, FrameFault>
     ensures fits { IfOk result (λ value. Fits value field.now.kind field.now.cap) }
     ensures given { (quality : Bool) (status : ℕ)
         → given quality field.now value status ≡ kept_if quality result status }
@@ -438,7 +438,7 @@ fn read_surpluses(cursor: &mut Cursor<'_>, encoding: u8, count: usize) -> Result
 
 /// One surplus value, by a copy of the cursor.
 #[inline(always)]
-fn read_surplus(cursor: &mut Cursor<'_>, encoding: u8) -> Result<(), FrameFault>
+pub(crate) fn read_surplus(cursor: &mut Cursor<'_>, encoding: u8) -> Result<(), FrameFault>
     ensures { ReadsAhead result cursor.old cursor.new (surplus_at encoding) }
 {
     let mut lent = *cursor;

@@ -39,6 +39,9 @@ pub(crate) const VALUE: u8 = 0x01;
 
 pub(crate) const VALUE_AND_STATUS: u8 = 0x03;
 
+// The bits of a DataValue's mask that are no mask's.
+pub(crate) const MASK_RESERVED: u8 = 0xc0;
+
 // The kinds of message.
 pub(crate) const KEY: u8 = 0;
 

@@ -1,5 +1,5 @@
 //! Laws of DataSetMessages, each the contract of a function that does nothing.
-ghost use Rattle.std.specs.Prelude.{◌≡◌, ◌≢◌, ◌++◌, ◌∷◌, ◌-◌, ◌/◌, ◌%◌, ◌<◌, ◌≤◌, ◌^◌, ◌↔◌, ℕ, Bool, true, false, List, [], length, take, Option, Some, None, Ok, Err, IfSome, replicate, slice_get};
+ghost use Rattle.std.specs.Prelude.{◌≡◌, ◌≢◌, ◌++◌, ◌∷◌, ◌+◌, ◌-◌, ◌||◌, nat_lt, ◌/◌, ◌%◌, ◌<◌, ◌≤◌, ◌^◌, ◌↔◌, ℕ, Bool, true, false, List, [], length, take, Option, Some, None, Ok, Err, IfSome, replicate, slice_get};
 ghost use Rattle.std.specs.Int.{w16, to_le_bytes};
 ghost use Rattle.ua_binary.specs.ReadingValues.{has, variant_at};
 ghost use Rattle.ua_binary.specs.Wire.{AreBytes};
@@ -12,6 +12,8 @@ ghost use Rattle.frame_codec.specs.declared.frame.Frame.{Frame as FrameWords};
 ghost use Rattle.frame_codec.specs.declared.front.Front.{Front as AnyFront};
 ghost use Rattle.frame_codec.specs.Begins.{BeginsWithFront, IsSpelled, raw_front};
 ghost use Rattle.frame_codec.specs.Contents.{field_at, surplus_at, change_at, is_newer, is_count};
+ghost use Rattle.frame_codec.specs.declared.faulty.FieldFault.{FieldFault};
+ghost use Rattle.frame_codec.specs.FieldFaults.{fault_at, judged_at, field_fault, IsOfValue, IsOfValueAlone};
 ghost use Rattle.frame_codec.specs.Frames.{Frame, Change, Alive, IsFrame, frame_cut};
 ghost use Rattle.frame_codec.specs.Fronts.{encoding_in, fault_in_flags1, fault_in_flags2, front_at};
 ghost use Rattle.frame_codec.specs.Reading.{are_zero, frame_at};
@@ -189,6 +191,48 @@ pub fn indexes_are_judged_by_the_fields()
         (rest : List ℕ) (fault : FrameFault) → index < 2 ^ 16 → length meta.fields ≤ index
         → surplus_at encoding rest ≡ Err fault
         → change_at meta true encoding patch (to_le_bytes w16 index ++ rest) ≡ Err fault }
+{}
+
+/// The field that is told of a refused frame is the first whose value can't be read: of a key frame by how many values stand
+/// before it, of a delta frame by its index, with the type byte where its bytes begin. Where a field is told the frame's fault is
+/// one that a value has, and each fault that a value alone has tells a field.
+pub fn faulty_fields_are_named()
+    ensures value { (meta : MetaData) (wire : WireFront) (count : ℕ) (before after : List Field)
+        (field : Field)
+        (values : List WireField) (rest : List ℕ) (fault : FrameFault) → IsWireFront false wire
+        → wire.kind ≡ 0 → count < 2 ^ 16
+        → is_count (is_newer meta wire.minor) (length meta.fields) count ≡ true
+        → meta.fields ≡ before ++ field ∷ after
+        → AreValues false wire.encoding before values
+        → field_at meta.quality wire.encoding field rest ≡ Err fault
+        → field_fault meta (wire_front_bytes wire ++ (to_le_bytes w16 count ++
+        (wire_values_bytes values ++ rest)))
+        ≡ Some (fault_at wire.encoding (length before) rest) }
+    ensures surplus { (meta : MetaData) (wire : WireFront) (count : ℕ)
+        (values more : List WireField) (rest : List ℕ)
+        (fault : FrameFault) → IsWireFront false wire → wire.kind ≡ 0 → count < 2 ^ 16
+        → is_count (is_newer meta wire.minor) (length meta.fields) count ≡ true
+        → AreValues false wire.encoding meta.fields values → AreValues true wire.encoding [] more
+        → length more < count - length meta.fields → surplus_at wire.encoding rest ≡ Err fault
+        → field_fault meta (wire_front_bytes wire ++ (to_le_bytes w16 count ++
+        (wire_values_bytes values ++ (wire_values_bytes more ++ rest))))
+        ≡ Some (fault_at wire.encoding (length meta.fields + length more) rest) }
+    ensures change { (meta : MetaData) (wire : WireFront) (count index : ℕ) (changes : List
+        (ℕ × WireField)) (rest : List ℕ)
+        (fault : FrameFault) → IsWireFront false wire → wire.kind ≡ 1 → count < 2 ^ 16
+        → AreChanges (is_newer meta wire.minor) wire.encoding meta.fields changes
+        → length changes < count → index < 2 ^ 16
+        → (is_newer meta wire.minor || nat_lt index (length meta.fields)) ≡ true
+        → judged_at meta.quality wire.encoding (slice_get meta.fields index) rest ≡ Err fault
+        → field_fault meta (wire_front_bytes wire ++ (to_le_bytes w16 count ++
+        (wire_changes_bytes changes ++ (to_le_bytes w16 index ++ rest))))
+        ≡ Some (fault_at wire.encoding index rest) }
+    ensures named { (meta : MetaData) (bytes : List ℕ) (field : FieldFault)
+        → field_fault meta bytes ≡ Some field
+        → (fault : FrameFault) × (frame_at meta bytes ≡ Err fault) × IsOfValue fault }
+    ensures of_value { (meta : MetaData) (bytes : List ℕ) (fault : FrameFault)
+        → frame_at meta bytes ≡ Err fault → IsOfValueAlone fault
+        → (field : FieldFault) × (field_fault meta bytes ≡ Some field) }
 {}
 
 /// A front is read in a fixed layout as in a dynamic one, faults and all, but for RawData, which stands in a fixed layout alone.

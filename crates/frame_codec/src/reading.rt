@@ -84,7 +84,7 @@ fn read_message(cursor: &mut Cursor<'_>, meta: &Meta, frame: &mut Frame) -> Resu
 
 /// Whether the sender's data set has grown.
 #[inline(always)]
-fn is_newer(meta: &Meta, minor: Option<u32>) -> bool
+pub(crate) fn is_newer(meta: &Meta, minor: Option<u32>) -> bool
     ensures { result ≡ is_newer meta.now minor }
 {
     match minor {
