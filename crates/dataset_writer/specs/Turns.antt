@@ -39,3 +39,7 @@ sent_by Quiet = None
 abbrev pub IsTurnOf : MetaData → Turn → Type 0
 IsTurnOf meta (Send frame) = IsFrameOf meta frame
 IsTurnOf meta Quiet = ⊤
+
+-- the same settings, with this number as that of the first data frame
+abbrev pub beginning_at : ℕ → WriterSettings → WriterSettings
+beginning_at first settings = record settings { first_number = first }

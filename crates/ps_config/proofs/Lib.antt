@@ -27,3 +27,4 @@ pub mod Rings
 pub mod KeyOrders
 pub mod Roomy
 pub mod OtherIds
+pub mod Beginning

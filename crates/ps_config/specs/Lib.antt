@@ -17,4 +17,5 @@ pub mod Sound
 pub mod FixedSound
 pub mod Layouts
 pub mod Rings
+pub mod Beginning
 pub mod BuiltIn

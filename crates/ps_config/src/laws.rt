@@ -1,11 +1,12 @@
 //! Laws of configurations, each the contract of a function that does nothing.
-ghost use Rattle.std.specs.Prelude.{◌≡◌, ◌≢◌, ℕ, ◌+◌, ◌≤◌, List, length, slice_get, All, Some, None, Ok};
+ghost use Rattle.std.specs.Prelude.{◌≡◌, ◌≢◌, ℕ, ◌+◌, ◌<◌, ◌≤◌, ◌^◌, List, length, slice_get, All, Some, None, Ok};
 ghost use Rattle.toml.specs.Data.{Members};
 ghost use Rattle.dataset_meta.specs.Metas.{MetaData};
 ghost use Rattle.config_tables.specs.declared.fault.Fault.{Fault};
 ghost use Rattle.config_tables.specs.declared.place.Place.{Place};
 ghost use Rattle.config_tables.specs.declared.place.Part.TheVariants.{KeyGroup, Group, ReadGroup};
 ghost use Rattle.config_tables.specs.declared.publisher.Publisher.{Publisher};
+ghost use Rattle.ps_config.specs.Beginning.{config_beginning};
 ghost use Rattle.ps_config.specs.BuiltIn.{built_in_text, built_in_config};
 ghost use Rattle.ps_config.specs.Meaning.{IsRefusedBy, IsAccepted};
 ghost use Rattle.ps_config.specs.declared.parts.Config.{Config};
@@ -92,4 +93,14 @@ pub fn no_other_group_has_its_ids()
         → slice_get config.group index ≡ Some one → slice_get config.group other ≡ Some part
         → other ≢ index → slice_get one.writer place ≡ Some writer
         → All (λ another. another.id ≢ writer.id) part.writer }
+{}
+
+/// A sound configuration stays sound where a writer begins at another number.
+pub fn a_first_number_keeps_a_configuration_sound()
+    ensures sound { (group writer first : ℕ) (config : Config) → IsSound config
+        → IsSound (config_beginning group writer first config) }
+    ensures fixed { (group writer first : ℕ) (config : Config) → IsFixedSound config
+        → IsFixedSound (config_beginning group writer first config) }
+    ensures types { (group writer first : ℕ) (config : Config) → first < 2 ^ 16 → HasTypes config
+        → HasTypes (config_beginning group writer first config) }
 {}

@@ -1,5 +1,7 @@
 //! What a configuration is made of: a field for each key, of the same name.
-ghost use Rattle.std.specs.Prelude.{◌≡◌, ◌≤◌, length};
+ghost use Rattle.std.specs.Prelude.{◌≡◌, ◌<◌, ◌≤◌, length};
+ghost use Rattle.std.specs.List.{HoldsAt};
+ghost use Rattle.ps_config.specs.Beginning.{HasWriterAt, changed_at, config_beginning, group_beginning, writer_beginning};
 ghost use Rattle.ps_config.specs.Rooms.{header_settings};
 
 use crate::header::HeaderSettings;
@@ -151,6 +153,38 @@ pub struct Config {
     pub group: Parts<GroupPart>,
     /// At most 4, with `MOST_READERS` in all.
     pub readgroup: Parts<ReadGroupPart>,
+}
+
+impl Config {
+    /// The writer with this index, in the group with this index, begins at this number (FirstNumber). Nothing else changes.
+    pub fn begin_at(&mut self, group: u8, writer: u8, first_number: u16)
+        requires { HasWriterAt group writer self.old }
+        ensures { self.new ≡ config_beginning group writer first_number self.old }
+    {
+        begin_in(
+            &mut self.group,
+            usize::from(group),
+            usize::from(writer),
+            first_number,
+        );
+    }
+}
+
+/// The writer of the group at this place begins at this number.
+fn begin_in(groups: &mut Parts<GroupPart>, group: usize, writer: usize, first_number: u16)
+    requires group { group < length groups.old }
+    requires writer { HoldsAt (λ part. writer < length part.writer) groups.old group }
+    ensures { groups.new ≡ changed_at group (group_beginning writer first_number) groups.old }
+{
+    begin_writer(&mut groups.parts[group].writer, writer, first_number);
+}
+
+/// The writer at this place begins at this number.
+fn begin_writer(writers: &mut Parts<WriterPart>, writer: usize, first_number: u16)
+    requires { writer < length writers.old }
+    ensures { writers.new ≡ changed_at writer (writer_beginning first_number) writers.old }
+{
+    writers.parts[writer].first_number = first_number;
 }
 
 impl Clone for Config {

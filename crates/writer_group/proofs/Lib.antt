@@ -1,4 +1,5 @@
 pub mod AnsweringLaws
+pub mod BegunLaws
 pub mod Cutting
 pub mod DatagramSizes
 pub mod FixedTurns

@@ -9,6 +9,7 @@ use Rattle.dataset_writer.specs.Standing.{IsWriter, HoldsRowOf, KeepsAll, logged
 use Rattle.message_guard.specs.Senders.{SenderState, IsSender, numbers_left}
 use Rattle.ps_config.specs.declared.parts.Config.{Config}
 use Rattle.ps_config.specs.declared.parts.GroupPart.{GroupPart}
+use Rattle.ps_config.specs.Beginning.{config_beginning, group_beginning}
 use Rattle.ps_config.specs.Headers.{is_secured, mode_of, publisher_value}
 use Rattle.ps_config.specs.Rooms.{header_settings, is_fixed, lacks_room}
 use Rattle.ps_config.specs.Sound.{IsSound}
@@ -194,6 +195,24 @@ abbrev pub GoesOnRefreshed : ℕ → Group → Group → Type 0
 GoesOnRefreshed index old new =
     (metas others : ℕ → MetaData) (part : GroupPart) (turns : ℕ) → AreSameBut index (writer_count old) metas others
     → MayGoOn metas part turns old → MayGoOn others part turns new
+
+-- of whichever configuration it was made, it is one of that in which the writer with this index begins at this number
+abbrev pub IsMadeBeginning : ℕ → ℕ → Group → Group → Type 0
+IsMadeBeginning writer first old new =
+    (config : Config) (index : ℕ) (part : GroupPart) → IsMadeFor config part old
+    → IsMadeFor (config_beginning index writer first config) (group_beginning writer first part) new
+
+-- where the writer with this index had no turn, the group stands where these deeds leave one in which that writer begins at this number; its meta may be another from now on
+abbrev pub HasBegun : ℕ → ℕ → Group → Group → Type 0
+HasBegun writer first old new =
+    (metas others : ℕ → MetaData) (part : GroupPart) (past : List GroupDeed) → AreSameBut writer (length part.writer) metas others
+    → writer_past writer past ≡ [] → IsGroup metas part past old → IsGroup others (group_beginning writer first part) past new
+
+-- its writers may have as many turns as before
+abbrev pub GoesOnBegun : ℕ → ℕ → Group → Group → Type 0
+GoesOnBegun writer first old new =
+    (metas others : ℕ → MetaData) (part : GroupPart) (turns : ℕ) → writer < length part.writer → AreSameBut writer (writer_count old) metas others
+    → MayGoOn metas part turns old → MayGoOn others (group_beginning writer first part) turns new
 
 -- the truth value tells whether it is due at this moment
 abbrev pub TellsDue : Group → ℕ → Bool → Type 0

@@ -2,11 +2,12 @@
 ghost use Rattle.std.specs.Prelude.{◌≡◌, ◌↔◌, ◌<◌, ◌≤◌, ◌^◌, All, List, IfNone, IfOk, IfSome, IsTrue, length, slice_index_or};
 ghost use Rattle.std.specs.Option.{ForSome, option_copied};
 ghost use Rattle.message_guard.specs.Senders.{IsSender};
+ghost use Rattle.ps_config.specs.Beginning.{config_beginning};
 ghost use Rattle.writer_group.specs.Limits.{most_datagrams};
 ghost use Rattle.writer_group.specs.Lending.{lent_in, left_in};
 ghost use Rattle.writer_group.specs.Answering.{HaveAnswered, MayAnswer, MayGo};
 ghost use Rattle.writer_group.specs.Making.{AreSpelled, passed, spelled_in};
-ghost use Rattle.writer_group.specs.Standing.{datagrams_in, index_of, writer_count, AreLogged, AreRowsOf, GoesOnAt, GoesOnRefreshed, IsLoggedIn, IsNeverDue, KeepsLogs, KeepsOnLogging, KeepsTo, HasTickedAt, IsFreshAt, IsGood, IsInOrder, IsMadeAt, IsRefreshed, IsReserved, IsSenderAfter, IsSenderFor, IsStillMade, IsWriterIn, MayTickAt, MayTurnAt, TellsDue, TellsDueFrom, TellsMoment, input_of};
+ghost use Rattle.writer_group.specs.Standing.{datagrams_in, index_of, writer_count, AreLogged, AreRowsOf, GoesOnAt, GoesOnBegun, GoesOnRefreshed, HasBegun, IsLoggedIn, IsNeverDue, KeepsLogs, KeepsOnLogging, KeepsTo, HasTickedAt, IsFreshAt, IsGood, IsInOrder, IsMadeAt, IsRefreshed, IsReserved, IsSenderAfter, IsSenderFor, IsMadeBeginning, IsStillMade, IsWriterIn, MayTickAt, MayTurnAt, TellsDue, TellsDueFrom, TellsMoment, input_of};
 ghost use Rattle.writer_group.specs.Turns.{GroupDeed, told_of};
 
 use crate::answering::answer_all;
@@ -112,6 +113,20 @@ impl Group {
         ensures keeps_to { (config : Config) → KeepsTo config self.old → KeepsTo config self.new }
     {
         self.writers[usize::from(index)].refresh();
+    }
+
+    /// The writer begins anew, as before its first turn, with this number as that of its first data frame. The group is then one of
+    /// the configuration with that first number.
+    pub fn begin_at(&mut self, index: u8, first_number: u16)
+        requires { index < writer_count self.old }
+        ensures index { index_of self.new ≡ index_of self.old }
+        ensures made { IsMadeBeginning index first_number self.old self.new }
+        ensures stands { HasBegun index first_number self.old self.new }
+        ensures goes_on { GoesOnBegun index first_number self.old self.new }
+        ensures keeps_to { (config : Config) → KeepsTo config self.old
+            → KeepsTo (config_beginning (index_of self.old) index first_number config) self.new }
+    {
+        self.writers[usize::from(index)].begin_at(first_number);
     }
 
     /// Whether the publishing interval has passed since the last turn that wasn't the closing one, or since moment 0.
