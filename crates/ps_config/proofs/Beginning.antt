@@ -167,7 +167,7 @@ few-same g w n config few =
     let new = config_beginning g w n config in
     let groups : length new.group ≡ length config.group = changed-length g (group_beginning w n) config.group in
     let count : length (writers new) ≡ length (writers config) =
-        sym (map-count (writers new)) ∙ ap (λ (l : List ℕ). length l) (ids-same g w n config) ∙ map-count (writers config) in
+    sym (map-count (writers new)) ∙ ap (λ (l : List ℕ). length l) (ids-same g w n config) ∙ map-count (writers config) in
     record {
       datasets = few.datasets;
       keygroups = few.keygroups;

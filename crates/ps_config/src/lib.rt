@@ -23,9 +23,10 @@ pub use config_tables::{
 };
 pub use header::{HeaderSettings, header_size, mode_of, publisher_id, signature_size};
 pub use laws::{
-    a_first_number_keeps_a_configuration_sound, a_group_with_room_has_room_for_a_keep_alive, an_accepted_configuration_is_sound,
-    key_orders_are_the_rings, no_other_group_has_its_ids, slots_are_those_of_the_layout,
-    the_built_in_configuration_is_sound, the_built_in_text_is_read, the_first_fault_is_told,
+    a_first_number_keeps_a_configuration_sound, a_group_with_room_has_room_for_a_keep_alive,
+    an_accepted_configuration_is_sound, key_orders_are_the_rings, no_other_group_has_its_ids,
+    slots_are_those_of_the_layout, the_built_in_configuration_is_sound, the_built_in_text_is_read,
+    the_first_fault_is_told,
 };
 pub use parts::{
     Config, GroupPart, KeyBytes, KeyGroupPart, KeyPart, MOST_READERS, MOST_WRITERS, Parts,
