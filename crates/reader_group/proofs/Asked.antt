@@ -105,7 +105,7 @@ first-refused : {X : Type 0} (ours : Bool) (list : Refusals) (x : X) → ours �
 first-refused false list x is = refl
 first-refused true list x is = absurd (let wrong : Path Bool true false = is in cc)
 
-not-ours : (group : ReadGroupPart) (datagram : List ℕ) (header : HeaderValue) (rest : List ℕ) → header_at datagram ≡ Ok (header, rest) → is_ours group header ≡ false → IsNotOurs group datagram
+pub not-ours : (group : ReadGroupPart) (datagram : List ℕ) (header : HeaderValue) (rest : List ℕ) → header_at datagram ≡ Ok (header, rest) → is_ours group header ≡ false → IsNotOurs group datagram
 not-ours group datagram header rest read is setup accepted =
     let payload = length datagram - length rest in
     let pass = guards.pass_of setup.mode header.security datagram in

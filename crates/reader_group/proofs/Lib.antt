@@ -31,5 +31,6 @@ pub mod Outcomes
 pub mod Noticing
 pub mod Signed
 pub mod Asked
+pub mod Unread
 pub mod BytesLeft
 pub mod Renewing

@@ -19,6 +19,8 @@ use Rattle.reader_group.specs.declared.refusal.Refusal.TheVariants.{NotOurs}
 use Rattle.reader_group.specs.declared.refused.Refused.{Refused}
 use Rattle.reader_group.specs.declared.refusal.Taken.{Taken}
 use Rattle.reader_group.specs.declared.tally.Tally.{Tally}
+use Rattle.reader_group.specs.Filter.{takes_number}
+use Rattle.reader_group.specs.Refused.{refused_on}
 use Rattle.reader_group.specs.Members.{Seat, MemberValue, seat_at, is_fresh}
 use Rattle.reader_group.specs.MemberWords.{IsMemberOf, HoldsRowsOf}
 use Rattle.reader_group.specs.Notices.{account_by, no_notice, notice_at, noticed_as, noticed_on}
@@ -166,6 +168,12 @@ pub record PassedDatagram (old new : ReaderGroup) (datagram bytes : List ℕ) (r
 abbrev pub HadIf : Bool → Config → ReaderGroup → ReaderGroup → ℕ → List Bool → List ℕ → List ℕ → Result Taken Refusal → Type 0
 HadIf true config old new now on datagram bytes result = HadDatagram config old new now on datagram bytes result
 HadIf false config old new now on datagram bytes result = PassedDatagram old new datagram bytes result
+
+-- A datagram is refused by a group that asks for this NetworkMessageNumber, at whatever moment it comes and whichever readers are enabled: it is had so, with its bytes as
+-- they were, and the refusal is kept.
+pub record IsRefusedUnread (config : Config) (number : ℕ) (datagram : List ℕ) (old new : ReaderGroup) (refusal : Refusal) : Type 0 where
+  pub had : (now : ℕ) (on : List Bool) → HadIf (takes_number number datagram) config old new now on datagram datagram (Err refusal)
+  pub kept : refused_of new ≡ refused_on (refused_of old) (Err refusal) datagram
 
 -- a ring with these keys renews a group: its plain reading stays, and goes on with the keys
 abbrev pub GoesOnWith : List TokenKeys → ReaderGroup → ReaderGroup → Type 0

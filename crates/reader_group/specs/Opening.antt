@@ -1,5 +1,5 @@
 -- What a read group makes of a datagram before a reader is given any of it: it is refused for the first of one list of tests that holds, or opened.
-use Rattle.std.specs.Prelude.{ℕ, ◌+◌, ◌-◌, ◌*◌, List, [], ◌∷◌, ◌++◌, length, map, take, drop, sum, Bool, false, not, ◌&&◌, nat_lt, Result, Ok, Err, if◌then◌else◌}
+use Rattle.std.specs.Prelude.{ℕ, ◌+◌, ◌-◌, ◌*◌, List, [], ◌∷◌, ◌++◌, length, map, take, drop, sum, Bool, false, not, ◌&&◌, nat_lt, Option, Some, None, Result, Ok, Err, if◌then◌else◌}
 use Rattle.uadp_header.specs.declared.fault.HeaderFault.{HeaderFault}
 use Rattle.uadp_header.specs.Headers.{IdsValue, NoIds, ListOf, ChunkOf, HeaderValue, ids_of}
 use Rattle.uadp_header.specs.Layout.{header_at}
@@ -17,7 +17,7 @@ use Rattle.ps_config.specs.declared.parts.ReadGroupPart.{ReadGroupPart}
 use Rattle.ps_config.specs.Rooms.{is_fixed}
 use Rattle.reader_group.specs.declared.refusal.Refusal.{Refusal}
 use Rattle.reader_group.specs.declared.refusal.Refusal.TheVariants as refusals
-use Rattle.reader_group.specs.Filter.{is_ours}
+use Rattle.reader_group.specs.Filter.{is_any_or, is_ours}
 use Rattle.reader_group.specs.Payloads.{Payload, payload_of}
 
 -- a datagram that is taken: what its guard found, and what it has for the readers
@@ -77,6 +77,12 @@ verdict_of group setup accepted datagram (Ok read) =
 -- what the read group makes of a datagram
 abbrev pub verdict : ReadGroupPart → Setup → Accepted → List ℕ → Result Opened Refusal
 verdict group setup accepted datagram = verdict_of group setup accepted datagram (header_at datagram)
+
+-- why a datagram whose header was read so is refused, by a group that asks for this NetworkMessageNumber too, where the header alone tells
+abbrev pub refusal_read : ReadGroupPart → ℕ → Result (HeaderValue × List ℕ) HeaderFault → Option Refusal
+refusal_read group number (Err fault) = Some (refusals.Header fault)
+refusal_read group number (Ok read) =
+    if is_any_or number read.0.message_number && is_ours group read.0 then None else Some refusals.NotOurs
 
 -- the bytes of a datagram that the guard judged so: decrypted where its mode encrypts and it passes the datagram
 abbrev pub left_judged : Setup → ℕ → List ℕ → Result Pass1 OpenFault → List ℕ

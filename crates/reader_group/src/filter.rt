@@ -1,10 +1,42 @@
 //! Whose datagrams a read group takes.
-ghost use Rattle.std.specs.Prelude.{◌≡◌};
+ghost use Rattle.std.specs.Prelude.{◌≡◌, ℕ, List};
 ghost use Rattle.uadp_header.specs.Headers.{publisher_in, header_in, if_there};
+ghost use Rattle.uadp_header.specs.Layout.{header_at};
+ghost use Rattle.uadp_header.specs.Reading.{GivesHeader};
+ghost use Rattle.reader_group.specs.Opening.{refusal_read};
 ghost use Rattle.reader_group.specs.Filter.{is_same_publisher, is_publisher, is_any_or, has_class, is_ours, takes_number};
 
+use crate::refusal::Refusal;
 use ps_config::{Publisher, ReadGroupPart};
-use uadp_header::{Header, PublisherId, read_header};
+use uadp_header::{Header, HeaderFault, PublisherId, read_header};
+
+/// Why a datagram whose header was read so is refused, where the header alone tells: it can't be read, or the filter refuses it, or
+/// it doesn't carry this NetworkMessageNumber, where that isn't 0.
+pub(crate) fn refusal_of(
+    group: &ReadGroupPart,
+    number: u16,
+    read: &Result<(Header<'_>, usize), HeaderFault>,
+) -> Option<Refusal>
+    ensures { (bytes : List ℕ) → GivesHeader read.now bytes
+        → result ≡ refusal_read group.now number (header_at bytes) }
+{
+    match read {
+        Err(fault) => Some(Refusal::Header(*fault)),
+        Ok((header, _)) => {
+            if carries(number, header.message_number) && is_ours(group, header) {
+                return None;
+            }
+            Some(Refusal::NotOurs)
+        }
+    }
+}
+
+/// Whether it is the NetworkMessageNumber that is asked for. 0 asks for any, also for none.
+fn carries(asked: u16, carried: Option<u16>) -> bool
+    ensures { result ≡ is_any_or asked carried }
+{
+    asked == 0 || carried == Some(asked)
+}
 
 /// Whether the publisher, the group, its version and the class id are those that the read group asks for.
 pub(crate) fn is_ours(group: &ReadGroupPart, header: &Header<'_>) -> bool

@@ -2,7 +2,7 @@
 ghost use Rattle.std.specs.Prelude.{◌≤◌, length};
 
 use crate::feeding::{expire_all, feed_all, part_count, stop_one};
-use crate::filter::takes_number;
+use crate::filter::{refusal_of, takes_number};
 use crate::guarding::{guard_of, stamp_of};
 use crate::making::{new_members, part_at};
 use crate::member::Member;
@@ -19,6 +19,7 @@ use ps_config::Config;
 use pubsub_model::Why;
 use std::alloc::Global;
 use ua_base::NoMemory;
+use uadp_header::{Header, HeaderFault};
 
 /// A read group of a configuration (OPC 10000-14 6.2.8, ReaderGroup): its guard, and its readers with their timers and chunks.
 #[derive(Drop)]
@@ -35,16 +36,17 @@ pub struct ReaderGroup {
 }
 
 impl ReaderGroup {
-    ghost use Rattle.std.specs.Prelude.{◌≡◌, ◌<◌, length, map, IfErr, IfOk, OnErr};
+    ghost use Rattle.std.specs.Prelude.{◌≡◌, ◌<◌, length, map, IfErr, IfNone, IfOk, IfSome, OnErr};
     ghost use Rattle.ps_config.specs.declared.parts.Config.{Config as AnyConfig};
     ghost use Rattle.ps_config.specs.Sound.{IsSound};
     ghost use Rattle.group_keys.specs.Ring.{key_sets};
     ghost use Rattle.message_guard.specs.Protection.{keys_in};
+    ghost use Rattle.uadp_header.specs.Reading.{GivesHeader};
     ghost use Rattle.reader_group.specs.Filter.{takes_number};
     ghost use Rattle.reader_group.specs.Notices.{notice_at};
     ghost use Rattle.reader_group.specs.Plain.{Setting, Got, Expired, Stopped};
     ghost use Rattle.reader_group.specs.Refused.{KeepsSender, none_refused, refused_on};
-    ghost use Rattle.reader_group.specs.Groups.{IsOpening, TakesOn, StepsBy, IsAnswer, AreLeft, IsKeptAt, IsPassedAt, IsMadeAt, IsLateAt, IsReadyAt, IsDueAt, IsConfirmedAt, IsFreshAt, IsMadeOf, AreNoticed, HadIf, GoesOnWith, index_of, reader_count, guard_of, members_of, notices_of, no_notices, refused_of};
+    ghost use Rattle.reader_group.specs.Groups.{IsOpening, TakesOn, StepsBy, IsAnswer, AreLeft, IsKeptAt, IsPassedAt, IsMadeAt, IsLateAt, IsReadyAt, IsDueAt, IsConfirmedAt, IsFreshAt, IsMadeOf, IsRefusedUnread, AreNoticed, HadIf, GoesOnWith, index_of, reader_count, guard_of, members_of, notices_of, no_notices, refused_of};
 
     /// The read group with this index, before anything.
     pub fn new(alloc: Global, config: &Config, index: u8) -> Result<ReaderGroup, NoMemory>
@@ -125,6 +127,32 @@ impl ReaderGroup {
         let answer = Err(Refusal::NotOurs);
         self.refused.note(&answer, bytes);
         answer
+    }
+
+    /// What `datagram_of_number` does where the header, of which this was read, is enough to refuse the datagram: its bytes needn't be
+    /// lent to be written. None, and nothing changes, where more has to be read.
+    pub fn refuse(
+        &mut self,
+        config: &Config,
+        number: u16,
+        bytes: &[u8],
+        read: &Result<(Header<'_>, usize), HeaderFault>,
+    ) -> Option<Refusal>
+        requires made { IsMadeOf config.now self.old }
+        requires read { GivesHeader read.now bytes.now }
+        ensures refused { IfSome result
+            (IsRefusedUnread config.now number bytes.now self.old self.new) }
+        ensures none { IfNone result (self.new ≡ self.old) }
+        ensures made { IsMadeOf config.now self.new }
+        ensures index { index_of self.new ≡ index_of self.old }
+        ensures members { members_of self.new ≡ members_of self.old }
+    {
+        let part = part_at(config, self.index);
+        let Some(refusal) = refusal_of(part, number, read) else {
+            return None;
+        };
+        self.refused.note_read(refusal, read);
+        Some(refusal)
     }
 
     // What `datagram` does, but that a refusal isn't kept.

@@ -1,5 +1,6 @@
 //! What a read group tells of the datagrams that it refused.
-ghost use Rattle.std.specs.Prelude.{◌≡◌};
+ghost use Rattle.std.specs.Prelude.{◌≡◌, ℕ, List};
+ghost use Rattle.uadp_header.specs.Reading.{GivesHeader};
 ghost use Rattle.uadp_header.specs.Headers.{header_in, if_there, publisher_in};
 ghost use Rattle.uadp_header.specs.Layout.{header_at};
 ghost use Rattle.dataset_reader.specs.Passed.{one_more};
@@ -8,7 +9,7 @@ ghost use Rattle.reader_group.specs.Refused.{kept_if, publisher_kept, sender_in,
 use crate::refusal::{Refusal, Taken};
 use ps_config::Publisher;
 use ua_values::Text;
-use uadp_header::{Header, PublisherId, read_header};
+use uadp_header::{Header, HeaderFault, PublisherId, read_header};
 
 /// Whose a datagram is, as its header tells (OPC 10000-14 7.2.4.4). Each is None where the header doesn't carry it.
 #[derive(Clone, Copy, Debug, PartialEq, Eq)]
@@ -44,6 +45,7 @@ pub struct Refused {
 }
 
 impl Refused {
+    ghost use Rattle.std.specs.Prelude.{ℕ, List, Err};
     ghost use Rattle.reader_group.specs.Refused.{none_refused, refused_on};
 
     /// Keeps what was answered to a datagram, if that is a refusal.
@@ -57,6 +59,43 @@ impl Refused {
                 self.count = one_more(self.count);
             }
         }
+    }
+
+    /// Keeps this refusal of a datagram whose header was read so.
+    pub(crate) fn note_read(
+        &mut self,
+        refusal: Refusal,
+        read: &Result<(Header<'_>, usize), HeaderFault>,
+    )
+        ensures { (datagram : List ℕ) → GivesHeader read.now datagram
+            → self.new ≡ refused_on self.old (Err refusal) datagram }
+    {
+        self.last = Some(last_refusal_read(refusal, read));
+        self.count = one_more(self.count);
+    }
+}
+
+/// The same of a datagram whose header was read so.
+fn last_refusal_read(
+    refusal: Refusal,
+    read: &Result<(Header<'_>, usize), HeaderFault>,
+) -> LastRefusal
+    ensures { (datagram : List ℕ) → GivesHeader read.now datagram
+        → result ≡ last_refusal_of refusal datagram }
+{
+    LastRefusal {
+        refusal,
+        sender: sender_if(refusal, read),
+    }
+}
+
+fn sender_if(refusal: Refusal, read: &Result<(Header<'_>, usize), HeaderFault>) -> Option<Sender>
+    ensures { (datagram : List ℕ) → GivesHeader read.now datagram
+        → result ≡ sender_of refusal datagram }
+{
+    match (refusal, read) {
+        (Refusal::NotOurs, Ok((header, _))) => Some(sender_in(header)),
+        _ => None,
     }
 }
 

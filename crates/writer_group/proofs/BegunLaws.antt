@@ -17,10 +17,11 @@ use Rattle.ps_config.specs.declared.parts.GroupPart.{GroupPart}
 use Rattle.ps_config.specs.declared.parts.WriterPart.{WriterPart}
 use Rattle.ps_config.specs.Beginning.{config_beginning, group_beginning, writer_beginning}
 use Rattle.ps_config.specs.FixedSound.{writer_slot}
-use Rattle.ps_config.specs.Headers.{signature_len}
-use Rattle.ps_config.specs.Rooms.{is_fixed}
+use Rattle.ps_config.specs.Headers.{publisher_value, signature_len}
+use Rattle.ps_config.specs.Rooms.{header_settings, is_fixed}
 use Rattle.ps_config.proofs.Beginning.{changed-here, changed-length, changed-map, changed-other}
 use Rattle.writer_group.specs.declared.group.Group.{Group}
+use Rattle.writer_group.specs.declared.leads.Leads.{Leads}
 use Rattle.writer_group.specs.Answering.{HasLived}
 use Rattle.writer_group.specs.Leads.{AreLeadsOf}
 use Rattle.writer_group.specs.Payloads.{fixed_header, no_writer, slots_of, writer_at}
@@ -154,7 +155,7 @@ made-begun config g index first part old new interval slots rooms leads count ma
       ∙ ap (λ (l : List Slot). layout_of (fixed_header config.publisher.id part) (part.max_size - signature_len part.security) l)
       (sym (changed-map (writer_slot config) index (writer_beginning first) part.writer (λ x. refl)));
   rooms = rooms ∙ made.rooms;
-  leads = subst (λ l. AreLeadsOf _ _ l) (sym leads) made.leads;
+  leads = subst (λ (l : Leads). AreLeadsOf (publisher_value config.publisher.id) (header_settings part) l) (sym leads) made.leads;
 }
 
 -- the metas of the other writers are as before

@@ -5,7 +5,7 @@ use Rattle.seq_number.specs.Numbers.{number_of_place}
 use Rattle.dataset_meta.specs.Metas.{MetaData}
 use Rattle.row_words.specs.Belonging.{Belongs}
 use Rattle.dataset_writer.specs.declared.writer.Writer.{Writer}
-use Rattle.dataset_writer.specs.Standing.{IsWriter, HoldsRowOf, KeepsAll, logged_by}
+use Rattle.dataset_writer.specs.Standing.{IsWriter, HoldsRowOf, KeepsAll, logged_by, next_place_of}
 use Rattle.message_guard.specs.Senders.{SenderState, IsSender, numbers_left}
 use Rattle.ps_config.specs.declared.parts.Config.{Config}
 use Rattle.ps_config.specs.declared.parts.GroupPart.{GroupPart}
@@ -162,6 +162,12 @@ abbrev pub IsWriterIn : Group → ℕ → Writer → Type 0
 IsWriterIn group index writer =
     (metas : ℕ → MetaData) (part : GroupPart) (past : List GroupDeed) → index < length part.writer → IsGroup metas part past group
     → IsWriter (metas index) (settings_of (writer_at part index)) (writer_past index past) writer
+
+-- the next data frame of the writer with this index takes this number
+abbrev pub TellsNextNumber : Group → ℕ → ℕ → Type 0
+TellsNextNumber group index number =
+    (metas : ℕ → MetaData) (part : GroupPart) (past : List GroupDeed) → index < length part.writer → IsGroup metas part past group
+    → number ≡ number_of_place (next_place_of (settings_of (writer_at part index)) (writer_past index past))
 
 -- the log of each of its writers keeps so many data frames
 abbrev pub AreLogged : ℕ → Group → Type 0

@@ -7,7 +7,7 @@ ghost use Rattle.writer_group.specs.Limits.{most_datagrams};
 ghost use Rattle.writer_group.specs.Lending.{lent_in, left_in};
 ghost use Rattle.writer_group.specs.Answering.{HaveAnswered, MayAnswer, MayGo};
 ghost use Rattle.writer_group.specs.Making.{AreSpelled, passed, spelled_in};
-ghost use Rattle.writer_group.specs.Standing.{datagrams_in, index_of, writer_count, AreLogged, AreRowsOf, GoesOnAt, GoesOnBegun, GoesOnRefreshed, HasBegun, IsLoggedIn, IsNeverDue, KeepsLogs, KeepsOnLogging, KeepsTo, HasTickedAt, IsFreshAt, IsGood, IsInOrder, IsMadeAt, IsRefreshed, IsReserved, IsSenderAfter, IsSenderFor, IsMadeBeginning, IsStillMade, IsWriterIn, MayTickAt, MayTurnAt, TellsDue, TellsDueFrom, TellsMoment, input_of};
+ghost use Rattle.writer_group.specs.Standing.{datagrams_in, index_of, writer_count, AreLogged, AreRowsOf, GoesOnAt, GoesOnBegun, GoesOnRefreshed, HasBegun, IsLoggedIn, IsNeverDue, KeepsLogs, KeepsOnLogging, KeepsTo, HasTickedAt, IsFreshAt, IsGood, IsInOrder, IsMadeAt, IsRefreshed, IsReserved, IsSenderAfter, IsSenderFor, IsMadeBeginning, IsStillMade, IsWriterIn, MayTickAt, MayTurnAt, TellsDue, TellsDueFrom, TellsMoment, TellsNextNumber, input_of};
 ghost use Rattle.writer_group.specs.Turns.{GroupDeed, told_of};
 
 use crate::answering::answer_all;
@@ -100,6 +100,14 @@ impl Group {
         ensures logs { IsLoggedIn self.now result.now }
     {
         &self.writers[usize::from(index)]
+    }
+
+    /// The number that the next data frame of the writer with this index takes.
+    pub fn next_number(&self, index: u8) -> u16
+        requires { index < writer_count self.now }
+        ensures { TellsNextNumber self.now index result }
+    {
+        self.writer(index).next_number()
     }
 
     /// Makes the writer fresh: its next turn sends a key frame, and its data set may have grown.

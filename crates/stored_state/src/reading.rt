@@ -1,0 +1,31 @@
+//! The state that bytes are laid out as.
+ghost use Rattle.std.specs.Prelude.{◌≡◌, ◌≤◌, drop, length, take};
+ghost use Rattle.stored_state.specs.States.{words_in};
+
+use crate::state::StoredState;
+use byteorder::{ByteOrder, LittleEndian};
+
+/// What stands at the places of a state, whatever else does.
+pub(crate) fn state_in(bytes: &[u8]) -> StoredState
+    requires { length bytes.now ≡ 144 }
+    ensures fingerprint { result.fingerprint ≡ take 32 (drop 8 bytes.now) }
+    ensures words { result.words ≡ words_in 24 (drop 40 bytes.now) }
+{
+    let mut fingerprint = [0; 32];
+    fingerprint.copy_from_slice(&bytes[8..40]);
+    StoredState {
+        fingerprint,
+        words: words_in(&bytes[40..]),
+    }
+}
+
+fn words_in(bytes: &[u8]) -> [u32; 24]
+    requires { 96 ≤ length bytes.now }
+    ensures { result ≡ words_in 24 bytes.now }
+{
+    let mut words = [0; 24];
+    for i in 0..24 {
+        words[i] = LittleEndian::read_u32(&bytes[4 * i..]);
+    }
+    words
+}
