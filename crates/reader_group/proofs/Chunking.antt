@@ -18,7 +18,7 @@ use Rattle.reader_group.specs.declared.notice.PartFault.TheVariants as faults
 use Rattle.reader_group.specs.declared.notice.PartOutcome.{PartOutcome}
 use Rattle.reader_group.specs.declared.notice.PartOutcome.TheVariants as parts
 use Rattle.reader_group.specs.MemberWords.{IsMemberOf, Follows, FollowsRead}
-use Rattle.reader_group.specs.Notices.{chunked_outcome, joined_outcome}
+use Rattle.reader_group.specs.Notices.{bad_part, chunked_outcome, joined_outcome}
 use Rattle.reader_group.specs.Plain.{joined_case, chunked_case}
 
 -- a message's number of 16 bits is the one that is carried
@@ -44,7 +44,7 @@ FollowsLaid seat receipt member laid new outcome = Follows seat (joined_case sea
 -- a message that is whole is read
 pub whole-follows : (seat : Seat) (receipt : Receipt) (member : MemberValue) (laid : Joining × Joined) (old : Member) (joiner : Joiner) (total : ℕ) (new : Member) (outcome : PartOutcome) → IsMemberOf seat member old
     → Meets laid joiner (joins.Whole total)
-    → ((value : MemberValue) → IsMemberOf seat value (record old { joiner = joiner }) → FollowsRead seat receipt value (frame_at seat.meta (joined_bytes value.joining)) new outcome)
+    → ((value : MemberValue) → IsMemberOf seat value (record old { joiner = joiner }) → FollowsRead seat receipt value (joined_bytes value.joining) (frame_at seat.meta (joined_bytes value.joining)) new outcome)
     → FollowsLaid seat receipt member laid new outcome
 whole-follows seat receipt member (joining, answer) old joiner total new outcome h meets reads =
     subst (λ (j : Joined). FollowsLaid seat receipt member (joining, j) new outcome) meets.1
@@ -53,15 +53,15 @@ whole-follows seat receipt member (joining, answer) old joiner total new outcome
 -- the answer to a chunk that makes no message whole, and what became of it
 abbrev pub IsNotWhole : Joined → PartOutcome → Type 0
 IsNotWhole (joins.Whole total) outcome = ⊥
-IsNotWhole joins.Part outcome = outcome ≡ parts.Read
-IsNotWhole joins.Older outcome = outcome ≡ parts.Read
-IsNotWhole (joins.TooLong total) outcome = outcome ≡ parts.Bad (faults.TooLong total)
-IsNotWhole (joins.BadRange offset total) outcome = outcome ≡ parts.Bad (faults.BadRange offset total)
-IsNotWhole (joins.Differs first now) outcome = outcome ≡ parts.Bad (faults.Differs first now)
+IsNotWhole joins.Part outcome = outcome ≡ parts.Laid
+IsNotWhole joins.Older outcome = outcome ≡ parts.Laid
+IsNotWhole (joins.TooLong total) outcome = outcome ≡ bad_part (faults.TooLong total)
+IsNotWhole (joins.BadRange offset total) outcome = outcome ≡ bad_part (faults.BadRange offset total)
+IsNotWhole (joins.Differs first now) outcome = outcome ≡ bad_part (faults.Differs first now)
 
-pub taken-in : (answer : Joined) → (answer ≡ joins.Part) ⊎ (answer ≡ joins.Older) → IsNotWhole answer parts.Read
-taken-in answer (inl is) = subst (λ (j : Joined). IsNotWhole j parts.Read) (sym is) refl
-taken-in answer (inr is) = subst (λ (j : Joined). IsNotWhole j parts.Read) (sym is) refl
+pub taken-in : (answer : Joined) → (answer ≡ joins.Part) ⊎ (answer ≡ joins.Older) → IsNotWhole answer parts.Laid
+taken-in answer (inl is) = subst (λ (j : Joined). IsNotWhole j parts.Laid) (sym is) refl
+taken-in answer (inr is) = subst (λ (j : Joined). IsNotWhole j parts.Laid) (sym is) refl
 
 pub refused-chunk : (answer other : Joined) (outcome : PartOutcome) → answer ≡ other → IsNotWhole other outcome → IsNotWhole answer outcome
 refused-chunk answer other outcome is bad = subst (λ (j : Joined). IsNotWhole j outcome) (sym is) bad
@@ -90,5 +90,5 @@ pub read-chunked : (seat : Seat) (receipt : Receipt) (member : MemberValue) (chu
 read-chunked seat receipt member chunk read new outcome is h = subst (λ (r : Result Chunk ChunkFault). FollowsChunk seat receipt member r new outcome) is h
 
 pub unread-chunk : (seat : Seat) (receipt : Receipt) (member : MemberValue) (fault : ChunkFault) (read : Result Chunk ChunkFault) (old : Member) → Err fault ≡ read
-    → IsMemberOf seat member old → FollowsChunk seat receipt member read old (parts.Bad (faults.Chunk fault))
-unread-chunk seat receipt member fault read old is h = subst (λ (r : Result Chunk ChunkFault). FollowsChunk seat receipt member r old (parts.Bad (faults.Chunk fault))) is (h, refl)
+    → IsMemberOf seat member old → FollowsChunk seat receipt member read old (bad_part (faults.Chunk fault))
+unread-chunk seat receipt member fault read old is h = subst (λ (r : Result Chunk ChunkFault). FollowsChunk seat receipt member r old (bad_part (faults.Chunk fault))) is (h, refl)

@@ -1,5 +1,5 @@
 -- A reader is given what was read.
-use Rattle.std.proofs.Common.{◌≡◌, refl, sym, ap, ◌∙◌, subst, arith, ℕ, ◌<◌, Option, Some, None}
+use Rattle.std.proofs.Common.{◌≡◌, refl, sym, ap, ◌∙◌, subst, arith, ℕ, ◌<◌, List, Option, Some, None}
 use Rattle.std.specs.Prelude.{IfSome, option_map, Result, Ok, Err}
 use Rattle.seq_number.specs.Numbers.{number_of_place}
 use Rattle.frame_codec.specs.declared.fault.FrameFault.{FrameFault}
@@ -18,11 +18,10 @@ use Rattle.dataset_reader.specs.Reader.{kept_by, passed_of, after_frame}
 use Rattle.reader_group.specs.declared.member.Member.{Member}
 use Rattle.reader_group.specs.declared.receipt.Receipt.{Receipt}
 use Rattle.reader_group.specs.Members.{Seat, MemberValue, noted, confirmed_by, numbering_of}
-use Rattle.reader_group.specs.declared.notice.PartFault.TheVariants as faults
 use Rattle.reader_group.specs.declared.notice.PartOutcome.{PartOutcome}
 use Rattle.reader_group.specs.declared.notice.PartOutcome.TheVariants as parts
 use Rattle.reader_group.specs.MemberWords.{IsMemberOf, Follows, FollowsRead}
-use Rattle.reader_group.specs.Notices.{given_outcome, outcome_of}
+use Rattle.reader_group.specs.Notices.{bad_frame, given_outcome}
 use Rattle.reader_group.specs.Plain.{short, given, taken_in}
 
 -- a number of 16 bits is the one that is carried
@@ -69,16 +68,16 @@ given_is seat receipt member frame old between new took carried h kept took_is n
 
 -- what became of the message that the reader answered so
 pub outcome_is : (seat : Seat) (receipt : Receipt) (member : MemberValue) (frame : FrameWords) (old : Member) (took : Took) (outcome : PartOutcome) → option_map number_of_place frame.number ≡ frame.number → IsMemberOf seat member old
-    → took ≡ (after_frame seat.meta old.reader frame receipt.stamp).1 → outcome ≡ outcome_of took.outcome → outcome ≡ given_outcome seat receipt member (frame_in seat.meta.fields frame)
+    → took ≡ (after_frame seat.meta old.reader frame receipt.stamp).1 → outcome ≡ parts.Given took → outcome ≡ given_outcome seat receipt member (frame_in seat.meta.fields frame)
 outcome_is seat receipt member frame old took outcome carried h took_is is =
-    is ∙ ap (λ (t : Took). outcome_of t.outcome) (took_is ∙ ap (λ (t : Kept × Took). t.1) (frame_is seat receipt member frame old carried h))
+    is ∙ ap (λ (t : Took). parts.Given t) (took_is ∙ ap (λ (t : Kept × Took). t.1) (frame_is seat receipt member frame old carried h))
 
 -- a frame that was read, and was given
-pub read_follows : (seat : Seat) (receipt : Receipt) (member : MemberValue) (frame : Frame) (read : Result Frame FrameFault) (new : Member) (outcome : PartOutcome) → read ≡ Ok frame
-    → Follows seat (given seat receipt member frame) (given_outcome seat receipt member frame) new outcome → FollowsRead seat receipt member read new outcome
-read_follows seat receipt member frame read new outcome is h = subst (λ (r : Result Frame FrameFault). FollowsRead seat receipt member r new outcome) (sym is) h
+pub read_follows : (seat : Seat) (receipt : Receipt) (member : MemberValue) (frame : Frame) (bytes : List ℕ) (read : Result Frame FrameFault) (new : Member) (outcome : PartOutcome) → read ≡ Ok frame
+    → Follows seat (given seat receipt member frame) (given_outcome seat receipt member frame) new outcome → FollowsRead seat receipt member bytes read new outcome
+read_follows seat receipt member frame bytes read new outcome is h = subst (λ (r : Result Frame FrameFault). FollowsRead seat receipt member bytes r new outcome) (sym is) h
 
 -- a frame that can't be read leaves the reader as it is
-pub refused_follows : (seat : Seat) (receipt : Receipt) (member : MemberValue) (fault : FrameFault) (read : Result Frame FrameFault) (new : Member) → read ≡ Err fault
-    → IsMemberOf seat member new → FollowsRead seat receipt member read new (parts.Bad (faults.Frame fault))
-refused_follows seat receipt member fault read new is h = subst (λ (r : Result Frame FrameFault). FollowsRead seat receipt member r new (parts.Bad (faults.Frame fault))) (sym is) (h, refl)
+pub refused_follows : (seat : Seat) (receipt : Receipt) (member : MemberValue) (fault : FrameFault) (bytes : List ℕ) (read : Result Frame FrameFault) (new : Member) → read ≡ Err fault
+    → IsMemberOf seat member new → FollowsRead seat receipt member bytes read new (bad_frame seat.meta bytes fault)
+refused_follows seat receipt member fault bytes read new is h = subst (λ (r : Result Frame FrameFault). FollowsRead seat receipt member bytes r new (bad_frame seat.meta bytes fault)) (sym is) (h, refl)

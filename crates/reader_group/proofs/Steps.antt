@@ -1,10 +1,11 @@
 -- A datagram that is taken is one step of the group's plain reading.
-use Rattle.std.proofs.Common.{◌≡◌, sym, ap, ◌∙◌, subst, ℕ, Bool, ◌&&◌, List, map, get_or, Option}
-use Rattle.std.specs.Prelude.{Result, Ok, sum_by}
+use Rattle.std.proofs.Common.{◌≡◌, refl, sym, ap, ◌∙◌, subst, ℕ, Bool, true, false, ◌&&◌, List, ◌∷◌, map, get_or, Option, Some}
+use Rattle.std.specs.Prelude.{Result, Ok, sum_by, if◌then◌else◌}
 use Rattle.message_guard.specs.declared.guard.Guard.{Guard}
 use Rattle.message_guard.specs.declared.keys.TokenKeys.{TokenKeys}
 use Rattle.message_guard.specs.declared.mode.Mode.{Mode}
-use Rattle.message_guard.specs.Acceptance.{raises}
+use Rattle.message_guard.specs.declared.pass.Pass1.{Pass1}
+use Rattle.message_guard.specs.Acceptance.{Accepted, raises}
 use Rattle.message_guard.specs.Guards.{Setup, IsGuardOf, setup_of}
 use Rattle.message_guard.specs.Modes.{is_secured}
 use Rattle.message_guard.specs.Opening.{accepts}
@@ -19,11 +20,12 @@ use Rattle.reader_group.specs.declared.receipt.Receipt.{Receipt}
 use Rattle.reader_group.specs.declared.refusal.Refusal.{Refusal}
 use Rattle.reader_group.specs.declared.refusal.Taken.{Taken}
 use Rattle.reader_group.specs.declared.tally.Tally.{Tally}
+use Rattle.reader_group.specs.LastTaken.{last_pair, pair_on}
 use Rattle.reader_group.specs.Members.{MemberValue}
 use Rattle.reader_group.specs.Payloads.{Payload, part_count}
 use Rattle.reader_group.specs.Opening.{Opened, bytes_left, verdict}
 use Rattle.reader_group.specs.Begun.{LeavesBytes, payload_held, Opens}
-use Rattle.reader_group.specs.Groups.{AreMembers, AreReaders, IsTallyOf, Stands, IsMadeOf, guard_of, members_of, index_of, setting_with}
+use Rattle.reader_group.specs.Groups.{AreMembers, AreReaders, IsTallyOf, Stands, IsMadeOf, guard_of, members_of, index_of, pair_of, setting_with}
 use Rattle.reader_group.specs.Plain.{Setting, PlainGroup, Fed, Got, all_fed, feds, is_raised, receipt_of, stamp_by, taken_on, answer_on, answer, step, verdict_in, with_keys}
 use Rattle.reader_group.specs.Settings.{setting_by}
 use Rattle.reader_group.proofs.Made.{setting-at}
@@ -62,6 +64,14 @@ pub verdict-is : (setting : Setting) (plain : PlainGroup) (datagram bytes : List
 verdict-is setting plain datagram bytes guard begun room opens setup = ap (λ (s : Setup). verdict setting.group s plain.accepted datagram) (sym setup) ∙ opens
 
 -- what is made of a datagram's receipt and payload, and of whether it raises the token, is made of those of the reading
+-- the pair of the plain reading, after a datagram that is accepted
+pair-accepted : (mode : Mode) (pass : Pass1) (accepted : Accepted) → pair_on mode pass (last_pair accepted) ≡ last_pair (accepts mode pass accepted)
+pair-accepted mode pass accepted = by_mode (is_secured mode)
+  where
+    by_mode : (b : Bool) → (if b then Some (record { token = pass.token; number = pass.number }) else last_pair accepted) ≡ last_pair (if b then (pass.token, pass.number) ∷ accepted else accepted)
+    by_mode true = refl
+    by_mode false = refl
+
 pub brought-as : {A : Type 0} (f : Receipt → Bool → Payload → A) (setting : Setting) (plain : PlainGroup) (now : ℕ) (on : List Bool) (datagram bytes : List ℕ) (guard after : Guard) (members new : List Member)
     (begun : Begun) (room : Buffers) (raised : Bool) (receipt : Receipt) (payload : Payload) (tally : Tally)
     → IsTaken setting plain now on datagram bytes guard after members new begun room raised receipt payload tally
@@ -87,9 +97,9 @@ feds-are setting plain now on datagram bytes guard after members new begun room 
 
 pub taken-step : (setting : Setting) (plain : PlainGroup) (now : ℕ) (on : List Bool) (datagram bytes : List ℕ) (guard after : Guard) (members new : List Member)
     (begun : Begun) (room : Buffers) (raised : Bool) (receipt : Receipt) (payload : Payload) (tally : Tally) (group : ReaderGroup)
-    → IsTaken setting plain now on datagram bytes guard after members new begun room raised receipt payload tally → guard_of group ≡ after → members_of group ≡ new
+    → IsTaken setting plain now on datagram bytes guard after members new begun room raised receipt payload tally → guard_of group ≡ after → pair_of group ≡ pair_on (mode_of setting.group.security) begun.pass (last_pair plain.accepted) → members_of group ≡ new
     → Stands setting (step setting plain (Got now on datagram)) group
-taken-step setting plain now on datagram bytes guard after members new begun room raised receipt payload tally group h guard_is members_is =
+taken-step setting plain now on datagram bytes guard after members new begun room raised receipt payload tally group h guard_is pair_is members_is =
     let opened = opened_of setting.group begun room bytes in
     let mode : (setup_of guard).mode ≡ setting.setup.mode = ap (λ (s : Setup). s.mode) h.setup in
     let read = verdict-is setting plain datagram bytes guard begun room h.opens h.setup in
@@ -98,6 +108,7 @@ taken-step setting plain now on datagram bytes guard after members new begun roo
       setup = subst (λ (g : Guard). setup_of g ≡ setting.setup) (sym guard_is) (h.setup_stays ∙ h.setup);
       guard = subst (λ (m : Mode). IsGuardOf (accepts m begun.pass plain.accepted) (guard_of group)) mode
           (subst (IsGuardOf (accepts (setup_of guard).mode begun.pass plain.accepted)) (sym guard_is) h.accepts_it);
+      pair = pair_is ∙ ap (λ (m : Mode). pair_on m begun.pass (last_pair plain.accepted)) (sym h.mode) ∙ pair-accepted setting.setup.mode begun.pass plain.accepted;
       members = subst (λ (list : List Fed). AreMembers setting.seats (members_in list) (members_of group)) feds_is
           (subst (AreMembers setting.seats (members_in (all_fed setting.seats plain.members receipt raised on payload))) (sym members_is) h.members_are);
     } in
@@ -146,12 +157,12 @@ pub taken_step : (config : Config) (old new : ReaderGroup) (after : Guard) (memb
     (datagram bytes : List ℕ) (begun : Begun) (room : Buffers) (raised : Bool) (receipt : Receipt) (payload : Payload) (tally : Tally)
     → IsMadeOf config old → part ≡ get_or config.readgroup (index_of old) part
     → IsTaken (with_keys (setting_by config part) keys) plain now on datagram bytes (guard_of old) after (members_of old) members begun room raised receipt payload tally
-    → guard_of new ≡ after → members_of new ≡ members
+    → guard_of new ≡ after → pair_of new ≡ pair_on (mode_of part.security) begun.pass (last_pair plain.accepted) → members_of new ≡ members
     → Stands (setting_with config old keys) (step (setting_with config old keys) plain (Got now on datagram)) new
-taken_step config old new after members part keys plain now on datagram bytes begun room raised receipt payload tally made is taken guard_is members_are =
+taken_step config old new after members part keys plain now on datagram bytes begun room raised receipt payload tally made is taken guard_is pair_is members_are =
     subst (λ (s : Setting). Stands s (step s plain (Got now on datagram)) new) (sym (at_part config old part keys made is))
     (taken-step (with_keys (setting_by config part) keys) plain now on datagram bytes (guard_of old) after (members_of old) members begun room raised receipt payload tally new taken guard_is
-    members_are)
+    pair_is members_are)
 
 pub taken_answer : (config : Config) (old : ReaderGroup) (after : Guard) (members : List Member) (part : ReadGroupPart) (keys : List TokenKeys) (plain : PlainGroup) (now : ℕ) (on : List Bool)
     (datagram bytes : List ℕ) (begun : Begun) (room : Buffers) (raised : Bool) (receipt : Receipt) (payload : Payload) (tally : Tally) (taken : Taken)

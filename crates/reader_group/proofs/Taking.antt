@@ -1,5 +1,5 @@
 -- A reader is given the parts of a datagram.
-use Rattle.std.proofs.Common.{◌≡◌, refl, sym, ap, ◌∙◌, arith, ℕ, ◌+◌, Bool, true, List, None}
+use Rattle.std.proofs.Common.{◌≡◌, refl, sym, ap, ◌∙◌, arith, ℕ, ◌+◌, Bool, true, List}
 use Rattle.std.specs.Prelude.{◌==◌, fold}
 use Rattle.std.proofs.lemmas.Bool.Decides.{nat_tests}
 use Rattle.ps_config.specs.declared.parts.ReaderPart.{ReaderPart}
@@ -9,21 +9,20 @@ use Rattle.reader_group.specs.declared.notice.PartOutcome.{PartOutcome}
 use Rattle.reader_group.specs.declared.receipt.Receipt.{Receipt}
 use Rattle.reader_group.specs.Members.{Seat, MemberValue}
 use Rattle.reader_group.specs.MemberWords.{Follows, IsFed, IsMemberOf}
-use Rattle.reader_group.specs.Notices.{AccountValue, account_on, fault_on, is_bad, major_on, no_account, piece_outcome}
+use Rattle.reader_group.specs.Notices.{AccountValue, account_on, findings_on, is_bad, no_account, no_findings, piece_outcome}
 use Rattle.reader_group.specs.Payloads.{Piece, Chunked, Chunk, pieces}
 use Rattle.reader_group.specs.Plain.{count_if, piece_case}
 use Rattle.reader_group.proofs.Outcomes.{piece-bad}
 
 -- before any part
 abbrev none : Account
-none = record { tally = record { matched = 0; bad = 0 }; fault = None; major = None }
+none = record { tally = record { matched = 0; bad = 0 }; findings = no_findings }
 
 -- what counting one part more ensures
 pub record Counts (old new : Account) (outcome : PartOutcome) : Type 0 where
   pub matched : new.tally.matched ≡ old.tally.matched + 1
   pub bad : new.tally.bad ≡ old.tally.bad + count_if (is_bad outcome)
-  pub fault : new.fault ≡ fault_on outcome old.fault
-  pub major : new.major ≡ major_on outcome old.major
+  pub findings : new.findings ≡ findings_on outcome old.findings
 
 -- one part more
 pub more-fed : (seat : Seat) (receipt : Receipt) (value : AccountValue) (piece : Piece) (old : Member) (new : Member) (outcome : PartOutcome) (before after : Account)
@@ -37,20 +36,19 @@ more-fed seat receipt value piece old new outcome before after follows counts h 
       matched = counts.matched ∙ ap (λ (n : ℕ). n + 1) h.matched;
       accounts = record {
         bad = counts.bad ∙ ap (λ (n : ℕ). n + count_if (is_bad outcome)) h.accounts.bad ∙ ap (λ (b : Bool). value.fed.bad + count_if b) bad;
-        fault = counts.fault ∙ ap (fault_on outcome) h.accounts.fault ∙ ap (λ (o : PartOutcome). fault_on o value.fault) is;
-        major = counts.major ∙ ap (major_on outcome) h.accounts.major ∙ ap (λ (o : PartOutcome). major_on o value.major) is;
+        findings = counts.findings ∙ ap (findings_on outcome) h.accounts.findings ∙ ap (λ (o : PartOutcome). findings_on o value.findings) is;
       };
     }
 
 -- the one part
 pub one-fed : (seat : Seat) (receipt : Receipt) (member : MemberValue) (piece : Piece) (old new : Member) (outcome : PartOutcome) (account : Account) → IsMemberOf seat member old
     → Follows seat (piece_case seat receipt member piece).0 (piece_outcome seat receipt member piece) new outcome
-    → account.tally.matched ≡ 1 → account.tally.bad ≡ count_if (is_bad outcome) → account.fault ≡ fault_on outcome None → account.major ≡ major_on outcome None
+    → account.tally.matched ≡ 1 → account.tally.bad ≡ count_if (is_bad outcome) → account.findings ≡ findings_on outcome no_findings
     → IsFed seat (account_on seat receipt (no_account member) piece) new account
-one-fed seat receipt member piece old new outcome account h follows matched bad fault major =
+one-fed seat receipt member piece old new outcome account h follows matched bad findings =
     let bad_is : account.tally.bad ≡ 0 + count_if (is_bad outcome) = omega (arith, bad) in
-    more-fed seat receipt (no_account member) piece old new outcome none account follows (record { matched = matched; bad = bad_is; fault = fault; major = major })
-    (record { member_is = h; matched = refl; accounts = record { bad = refl; fault = refl; major = refl } })
+    more-fed seat receipt (no_account member) piece old new outcome none account follows (record { matched = matched; bad = bad_is; findings = findings })
+    (record { member_is = h; matched = refl; accounts = record { bad = refl; findings = refl } })
 
 -- a chunk for the reader of this writer
 pub own-chunk : (seat : Seat) (receipt : Receipt) (member : MemberValue) (reader : ReaderPart) (writer : ℕ) (bytes : List ℕ) (new : Member) (account : Account) → writer ≡ reader.writer

@@ -13,7 +13,7 @@ use Rattle.reader_group.specs.declared.refusal.Refusal.TheVariants as refusals
 abbrev pub refusal : Refusal → List ℕ
 refusal (refusals.Header fault) = codes "no header was read: " ++ header_fault fault
 refusal refusals.NotOurs =
-    codes "the publisher, the group, its version or the class id isn't the one that the read group asks for"
+    codes "the publisher, the group, its version, the class id or the NetworkMessageNumber isn't the one that the read group asks for"
 refusal refusals.NoIds = codes "there is no payload header, which a dynamic layout wants"
 refusal (refusals.Guard fault) = open_fault fault
 refusal refusals.BadSizes = codes "the sizes of the messages, or the messages, pass the end of the datagram"

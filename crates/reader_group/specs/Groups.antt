@@ -14,6 +14,7 @@ use Rattle.reader_group.specs.declared.member.Member.{Member}
 use Rattle.reader_group.specs.declared.group.ReaderGroup.{ReaderGroup}
 use Rattle.reader_group.specs.declared.notice.Notice.{Notice}
 use Rattle.reader_group.specs.declared.receipt.Receipt.{Receipt}
+use Rattle.reader_group.specs.declared.receipt.TokenNumber.{TokenNumber}
 use Rattle.reader_group.specs.declared.refusal.Refusal.{Refusal}
 use Rattle.reader_group.specs.declared.refusal.Refusal.TheVariants.{NotOurs}
 use Rattle.reader_group.specs.declared.refused.Refused.{Refused}
@@ -21,6 +22,7 @@ use Rattle.reader_group.specs.declared.refusal.Taken.{Taken}
 use Rattle.reader_group.specs.declared.tally.Tally.{Tally}
 use Rattle.reader_group.specs.Filter.{takes_number}
 use Rattle.reader_group.specs.Refused.{refused_on}
+use Rattle.reader_group.specs.LastTaken.{last_pair}
 use Rattle.reader_group.specs.Members.{Seat, MemberValue, seat_at, is_fresh}
 use Rattle.reader_group.specs.MemberWords.{IsMemberOf, HoldsRowsOf}
 use Rattle.reader_group.specs.Notices.{account_by, no_notice, notice_at, noticed_as, noticed_on}
@@ -45,6 +47,10 @@ refused_of group = group.refused
 -- what is noted of its readers, beside its plain reading
 abbrev pub notices_of : ReaderGroup → List Notice
 notices_of group = group.notices
+
+-- the token and the number of the last datagram that it accepted under a security header
+abbrev pub pair_of : ReaderGroup → Option TokenNumber
+pair_of group = group.pair
 
 abbrev pub reader_count : ReaderGroup → ℕ
 reader_count group = length (members_of group)
@@ -95,12 +101,13 @@ abbrev pub AreNotedBy : List Seat → Receipt → Bool → List Bool → Payload
 AreNotedBy seats receipt raised on payload members old new =
     (values : List MemberValue) → AreMembers seats values members
     → (k : ℕ) → k < length seats
-    → notice_at new k ≡ noticed_as (account_by (seat_at seats k) receipt raised (slice_index_or on k false) payload (member_at values k)) (notice_at old k)
+    → notice_at new k ≡ noticed_as receipt.moment (account_by (seat_at seats k) receipt raised (slice_index_or on k false) payload (member_at values k)) (notice_at old k)
 
 -- the group is where its plain reading is, with the setting's keys
 pub record Stands (setting : Setting) (plain : PlainGroup) (group : ReaderGroup) : Type 0 where
   pub setup : setup_of (guard_of group) ≡ setting.setup
   pub guard : IsGuardOf plain.accepted (guard_of group)
+  pub pair : pair_of group ≡ last_pair plain.accepted
   pub members : AreMembers setting.seats plain.members (members_of group)
 
 -- the group was made of this configuration, which is sound; rings may have renewed it since
@@ -160,6 +167,7 @@ pub record HadDatagram (config : Config) (old new : ReaderGroup) (now : ℕ) (on
 pub record PassedDatagram (old new : ReaderGroup) (datagram bytes : List ℕ) (result : Result Taken Refusal) : Type 0 where
   pub answer : result ≡ Err NotOurs
   pub guard : guard_of new ≡ guard_of old
+  pub pair : pair_of new ≡ pair_of old
   pub members : members_of new ≡ members_of old
   pub notices : notices_of new ≡ notices_of old
   pub bytes_stay : bytes ≡ datagram
@@ -227,6 +235,10 @@ abbrev pub IsDueAt : ReaderGroup → ℕ → Option ℕ → Type 0
 IsDueAt group index moment =
     (setting : Setting) (plain : PlainGroup) → Stands setting plain group
     → TellsDue (seat_at setting.seats index).part.timeout (member_at plain.members index).told moment
+
+-- the token and the number of the last datagram that was accepted under a security header are what the plain reading has
+abbrev pub IsLastTaken : ReaderGroup → Option TokenNumber → Type 0
+IsLastTaken group pair = (setting : Setting) (plain : PlainGroup) → Stands setting plain group → pair ≡ last_pair plain.accepted
 
 -- the readers of a read group of any configuration, before anything
 abbrev pub AreNew : ReadGroupPart → List Member → Type 0

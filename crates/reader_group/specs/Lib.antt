@@ -4,6 +4,7 @@ pub mod SlotFrames
 pub mod Payloads
 pub mod Opening
 pub mod Plain
+pub mod LastTaken
 pub mod Refused
 pub mod Notices
 pub mod Held

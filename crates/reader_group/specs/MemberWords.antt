@@ -52,11 +52,10 @@ pub record Tells (fed : Fed) (tally : Tally) : Type 0 where
   pub matched : tally.matched ≡ fed.matched
   pub bad : tally.bad ≡ fed.bad
 
--- how many parts of a datagram were bad, and the last fault and the last other major version among them
+-- how many parts of a datagram were bad, and what they told
 pub record Accounts (value : AccountValue) (account : Account) : Type 0 where
   pub bad : account.tally.bad ≡ value.fed.bad
-  pub fault : account.fault ≡ value.fault
-  pub major : account.major ≡ value.major
+  pub findings : account.findings ≡ value.findings
 
 -- what is kept once a reader was given its parts, and what became of them
 pub record IsFed (seat : Seat) (value : AccountValue) (member : Member) (account : Account) : Type 0 where
@@ -131,16 +130,16 @@ FollowsPiece part meta receipt piece old new outcome =
     (value : MemberValue) → IsMemberOf (seat_of part meta) value old
     → Follows (seat_of part meta) (piece_case (seat_of part meta) receipt value piece).0 (piece_outcome (seat_of part meta) receipt value piece) new outcome
 
--- what was read so is given to the reader, and what became of it
-abbrev pub FollowsRead : Seat → Receipt → MemberValue → Result Frame FrameFault → Member → PartOutcome → Type 0
-FollowsRead seat receipt value read new outcome =
-    Follows seat (read_case seat receipt value read).0 (read_outcome seat receipt value read) new outcome
+-- what these bytes were read as is given to the reader, and what became of it
+abbrev pub FollowsRead : Seat → Receipt → MemberValue → List ℕ → Result Frame FrameFault → Member → PartOutcome → Type 0
+FollowsRead seat receipt value bytes read new outcome =
+    Follows seat (read_case seat receipt value read).0 (read_outcome seat receipt value bytes read) new outcome
 
 -- the reader is given the message that was joined of its chunks, and the answer says what became of it
 abbrev pub FollowsJoined : MetaData → Receipt → Member → Member → PartOutcome → Type 0
 FollowsJoined meta receipt old new outcome =
     (part : ReaderPart) (value : MemberValue) → IsMemberOf (seat_of part meta) value old
-    → FollowsRead (seat_of part meta) receipt value (frame_at meta (joined_bytes value.joining)) new outcome
+    → FollowsRead (seat_of part meta) receipt value (joined_bytes value.joining) (frame_at meta (joined_bytes value.joining)) new outcome
 
 -- the message that was joined of the reader's chunks is read over the frame that it keeps
 abbrev pub ReadsJoined : MetaData → Member → Result (Unit {0}) FrameFault → Member → Type 0

@@ -1,27 +1,25 @@
 //! What a datagram brought one reader.
 
-use crate::notice::{PartFault, PartOutcome};
+use crate::findings::Findings;
+use crate::notice::PartOutcome;
 use crate::tally::Tally;
 
 /// How many parts of a datagram a reader was given, and what became of them.
 #[derive(Clone, Copy)]
 pub(crate) struct Account {
     pub tally: Tally,
-    /// Why the last of those that couldn't be read couldn't.
-    pub fault: Option<PartFault>,
-    /// The major version of the last message of another one.
-    pub major: Option<u32>,
+    /// What they told.
+    pub findings: Findings,
 }
 
 impl Account {
-    ghost use Rattle.std.specs.Prelude.{◌≡◌, ◌+◌, ◌<◌, None};
-    ghost use Rattle.reader_group.specs.Notices.{fault_on, is_bad, major_on};
+    ghost use Rattle.std.specs.Prelude.{◌≡◌, ◌+◌, ◌<◌};
+    ghost use Rattle.reader_group.specs.Notices.{findings_on, is_bad, no_findings};
     ghost use Rattle.reader_group.specs.Plain.{count_if};
 
     pub const NONE: Account = Account {
         tally: Tally::NONE,
-        fault: None,
-        major: None,
+        findings: Findings::NONE,
     };
 
     /// One part more.
@@ -30,26 +28,20 @@ impl Account {
         requires bad { self.old.tally.bad < 255 }
         ensures matched { self.new.tally.matched ≡ self.old.tally.matched + 1 }
         ensures bad { self.new.tally.bad ≡ self.old.tally.bad + count_if (is_bad outcome) }
-        ensures fault { self.new.fault ≡ fault_on outcome self.old.fault }
-        ensures major { self.new.major ≡ major_on outcome self.old.major }
+        ensures findings { self.new.findings ≡ findings_on outcome self.old.findings }
     {
         self.tally.matched += 1;
-        match outcome {
-            PartOutcome::Read => {}
-            PartOutcome::OtherMajor(got) => self.major = Some(got),
-            PartOutcome::Bad(fault) => {
-                self.tally.bad += 1;
-                self.fault = Some(fault);
-            }
+        if let PartOutcome::Bad { .. } = outcome {
+            self.tally.bad += 1;
         }
+        self.findings.find(outcome);
     }
 
     /// That of one part.
     pub fn of_one(outcome: PartOutcome) -> Account
         ensures matched { result.tally.matched ≡ 1 }
         ensures bad { result.tally.bad ≡ count_if (is_bad outcome) }
-        ensures fault { result.fault ≡ fault_on outcome None }
-        ensures major { result.major ≡ major_on outcome None }
+        ensures findings { result.findings ≡ findings_on outcome no_findings }
     {
         let mut account = Account::NONE;
         account.count(outcome);

@@ -55,16 +55,16 @@ pub(crate) fn feed_all(
             members, index, reader, meta, receipt, raised, enabled, payload,
         );
         tally.add(&account.tally);
-        note_at(notices, index, &account);
+        note_at(notices, index, receipt.moment, &account);
     }
     tally
 }
 
-fn note_at(notices: &mut [Notice], index: usize, account: &Account)
+fn note_at(notices: &mut [Notice], index: usize, now: u64, account: &Account)
     requires { index < length notices.old }
-    ensures { IsNotedAt index account.now notices.old notices.new }
+    ensures { IsNotedAt index now account.now notices.old notices.new }
 {
-    notices[index].note(account);
+    notices[index].note(now, account);
 }
 
 fn reader_at(group: &ReadGroupPart, index: usize) -> &ReaderPart

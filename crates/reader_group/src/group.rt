@@ -3,12 +3,12 @@ ghost use Rattle.std.specs.Prelude.{◌≤◌, length};
 
 use crate::feeding::{expire_all, feed_all, part_count, stop_one};
 use crate::filter::{refusal_of, takes_number};
-use crate::guarding::{guard_of, stamp_of};
+use crate::guarding::{guard_of, pair_on, stamp_of};
 use crate::making::{new_members, part_at};
 use crate::member::Member;
 use crate::notice::Notice;
 use crate::opening::{Buffers, open, payload_held};
-use crate::receipt::Receipt;
+use crate::receipt::{Receipt, TokenNumber};
 use crate::refusal::{Refusal, Taken};
 use crate::refused::Refused;
 use arrayvec::ArrayVec;
@@ -29,6 +29,8 @@ pub struct ReaderGroup {
     members: Vec<Member>,
     // what is noted of each reader, by its index
     notices: [Notice; 16],
+    // of the last datagram that was accepted under a security header
+    pair: Option<TokenNumber>,
     refused: Refused,
     // room for what one datagram tells; it says nothing between two
     room: Buffers,
@@ -46,7 +48,7 @@ impl ReaderGroup {
     ghost use Rattle.reader_group.specs.Notices.{notice_at};
     ghost use Rattle.reader_group.specs.Plain.{Setting, Got, Expired, Stopped};
     ghost use Rattle.reader_group.specs.Refused.{KeepsSender, none_refused, refused_on};
-    ghost use Rattle.reader_group.specs.Groups.{IsOpening, TakesOn, StepsBy, IsAnswer, AreLeft, IsKeptAt, IsPassedAt, IsMadeAt, IsLateAt, IsReadyAt, IsDueAt, IsConfirmedAt, IsFreshAt, IsMadeOf, IsRefusedUnread, AreNoticed, HadIf, GoesOnWith, index_of, reader_count, guard_of, members_of, notices_of, no_notices, refused_of};
+    ghost use Rattle.reader_group.specs.Groups.{IsOpening, TakesOn, StepsBy, IsAnswer, AreLeft, IsKeptAt, IsPassedAt, IsMadeAt, IsLateAt, IsReadyAt, IsDueAt, IsConfirmedAt, IsFreshAt, IsMadeOf, IsRefusedUnread, AreNoticed, HadIf, GoesOnWith, index_of, reader_count, guard_of, members_of, notices_of, no_notices, refused_of, pair_of, IsLastTaken};
 
     /// The read group with this index, before anything.
     pub fn new(alloc: Global, config: &Config, index: u8) -> Result<ReaderGroup, NoMemory>
@@ -66,6 +68,7 @@ impl ReaderGroup {
             guard,
             members,
             notices: [Notice::default(); 16],
+            pair: None,
             refused: Refused::default(),
             room: Buffers {
                 ids: ArrayVec::new(),
@@ -92,6 +95,7 @@ impl ReaderGroup {
         ensures notices { AreNoticed config.now self.old now on.now bytes.old self.new }
         ensures refused_guard { OnErr result (guard_of self.new ≡ guard_of self.old) }
         ensures refused_members { OnErr result (members_of self.new ≡ members_of self.old) }
+        ensures refused_pair { OnErr result (pair_of self.new ≡ pair_of self.old) }
         ensures refused { refused_of self.new ≡ refused_on (refused_of self.old) result bytes.old }
         ensures made { IsMadeOf config.now self.new }
         ensures index { index_of self.new ≡ index_of self.old }
@@ -117,6 +121,7 @@ impl ReaderGroup {
             bytes.old bytes.new result }
         ensures refused_guard { OnErr result (guard_of self.new ≡ guard_of self.old) }
         ensures refused_members { OnErr result (members_of self.new ≡ members_of self.old) }
+        ensures refused_pair { OnErr result (pair_of self.new ≡ pair_of self.old) }
         ensures refused { refused_of self.new ≡ refused_on (refused_of self.old) result bytes.old }
         ensures made { IsMadeOf config.now self.new }
         ensures index { index_of self.new ≡ index_of self.old }
@@ -172,6 +177,7 @@ impl ReaderGroup {
         ensures sender { IfErr result (KeepsSender bytes.old bytes.new) }
         ensures refused_guard { OnErr result (guard_of self.new ≡ guard_of self.old) }
         ensures refused_members { OnErr result (members_of self.new ≡ members_of self.old) }
+        ensures refused_pair { OnErr result (pair_of self.new ≡ pair_of self.old) }
         ensures refused { refused_of self.new ≡ refused_of self.old }
         ensures made { IsMadeOf config.now self.new }
         ensures index { index_of self.new ≡ index_of self.old }
@@ -179,6 +185,7 @@ impl ReaderGroup {
         let part = part_at(config, self.index);
         let begun = open(part, &self.guard, &mut self.room, bytes)?;
         let raised = self.guard.accept(begun.pass);
+        self.pair = pair_on(part.security, &begun.pass, self.pair);
         let payload = payload_held(part.layout, &begun, &self.room, bytes);
         let receipt = Receipt {
             moment: now,
@@ -283,6 +290,9 @@ impl ReaderGroup {
     /// The moment, in milliseconds, of the last message that a reader took with none missing up to it, where it holds a row: a key
     /// frame, a delta frame that follows, or a keep-alive that names the row's message as the last. A reader that goes by no
     /// numbers has it from key frames alone, since nothing would show that one was lost.
+    /// It rests on message numbers alone, and so on a publisher that sends each once under a token. Where an unsecured publisher
+    /// restarts with lower numbers its messages are passed over as older, and the row stays confirmed as long as keep-alives or
+    /// delta frames follow on.
     pub fn confirmed(&self, index: u8) -> Option<u64>
         requires { index < reader_count self.now }
         ensures { IsConfirmedAt self.now index result }
@@ -291,7 +301,7 @@ impl ReaderGroup {
     }
 
     /// Whether a reader holds a row that was confirmed at most so many milliseconds before this moment. A row that was confirmed
-    /// after it is as old as one that was confirmed at it.
+    /// after it is as old as one that was confirmed at it. What `confirmed` rests on it rests on too.
     pub fn is_fresh(&self, index: u8, now: u64, bound: u64) -> bool
         requires { index < reader_count self.now }
         ensures { IsFreshAt self.now index now bound result }
@@ -302,13 +312,22 @@ impl ReaderGroup {
         }
     }
 
-    /// What is noted of a reader's parts, over all datagrams since the group was made: what couldn't be read, and why, and what was
-    /// of another major version. `Reader::passed` tells how often messages were passed over.
+    /// What is noted of a reader's parts, over all datagrams since the group was made: what couldn't be read, and why, what was of
+    /// another major version, how many messages were missing, how often a row was stored, and when the last message was taken.
+    /// `Reader::passed` tells how often messages were passed over.
     pub fn notice(&self, index: u8) -> Notice
         requires { index < reader_count self.now }
         ensures { result ≡ notice_at (notices_of self.now) index }
     {
         self.notices[usize::from(index)]
+    }
+
+    /// The token and the number of the last datagram that was accepted under a security header. None where none was, and where the
+    /// group isn't secured.
+    pub fn last_taken(&self) -> Option<TokenNumber>
+        ensures { IsLastTaken self.now result }
+    {
+        self.pair
     }
 
     /// What the group refused since it was made.

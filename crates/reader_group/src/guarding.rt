@@ -5,12 +5,14 @@ ghost use Rattle.message_guard.specs.Guards.{IsGuardOf, setup_of};
 ghost use Rattle.message_guard.specs.Protection.{keys_in};
 ghost use Rattle.ps_config.specs.Headers.{mode_of};
 ghost use Rattle.ps_config.specs.Sound.{IsSound};
+ghost use Rattle.reader_group.specs.LastTaken.{pair_on};
 ghost use Rattle.reader_group.specs.Plain.{stamp_by};
 ghost use Rattle.reader_group.specs.Settings.{no_keys, setup_by};
 
+use crate::receipt::TokenNumber;
 use arrayvec::ArrayVec;
 use group_keys::{KeySet, Ring};
-use message_guard::Guard;
+use message_guard::{Guard, Pass1};
 use ps_config::{Config, KeyGroupPart, ReadGroupPart, Security, mode_of, ring_of};
 
 /// The guard of a read group, by its key group if it has one.
@@ -37,6 +39,23 @@ pub(crate) fn stamp_of(security: Security, number: u32) -> Option<u32>
     match security {
         Security::None => None,
         Security::Sign | Security::Encrypt => Some(number),
+    }
+}
+
+/// The token and the number of a datagram that is accepted where the group is secured, else those before.
+pub(crate) fn pair_on(
+    security: Security,
+    pass: &Pass1,
+    before: Option<TokenNumber>,
+) -> Option<TokenNumber>
+    ensures { result ≡ pair_on (mode_of security) pass.now before }
+{
+    match security {
+        Security::None => before,
+        Security::Sign | Security::Encrypt => Some(TokenNumber {
+            token: pass.token,
+            number: pass.number,
+        }),
     }
 }
 

@@ -6,6 +6,7 @@ mod account;
 mod begun;
 mod feeding;
 mod filter;
+mod findings;
 mod group;
 mod guarding;
 mod laws;
@@ -33,6 +34,6 @@ pub use laws::{
     what_is_not_asked_for_is_not_ours, what_is_spelled_is_handed_on,
 };
 pub use notice::{Notice, PartFault};
-pub use receipt::Receipt;
+pub use receipt::{Receipt, TokenNumber};
 pub use refusal::{Refusal, Taken};
 pub use refused::{LastRefusal, Refused, Sender};

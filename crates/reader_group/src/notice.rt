@@ -2,9 +2,10 @@
 ghost use Rattle.std.specs.Prelude.{◌≡◌};
 
 use crate::account::Account;
+use crate::findings::more_of;
 use chunker::ChunkFault;
-use dataset_reader::Outcome;
-use frame_codec::FrameFault;
+use dataset_reader::Took;
+use frame_codec::{FieldFault, FrameFault};
 use std::error::Error;
 use std::fmt;
 
@@ -57,56 +58,57 @@ impl Error for PartFault {}
 /// What became of a part.
 #[derive(Clone, Copy)]
 pub(crate) enum PartOutcome {
-    /// It was read: the reader took it or passed it over, or it is a chunk.
-    Read,
-    /// It is a message of this other major version.
-    OtherMajor(u32),
-    /// It couldn't be read.
-    Bad(PartFault),
+    /// It is a chunk that makes no message whole.
+    Laid,
+    /// It is a message, or makes one whole, and the reader answered this.
+    Given(Took),
+    /// It couldn't be read: for this fault, at this field where a value has it.
+    Bad {
+        fault: PartFault,
+        field: Option<FieldFault>,
+    },
 }
 
-impl PartOutcome {
-    ghost use Rattle.reader_group.specs.Notices.{outcome_of};
-
-    /// Of a message that was read, and that the reader answered so.
-    pub fn of(outcome: Outcome) -> PartOutcome
-        ensures { result ≡ outcome_of outcome }
-    {
-        match outcome {
-            Outcome::WrongMajor { got } => PartOutcome::OtherMajor(got),
-            Outcome::Held
-            | Outcome::Alive
-            | Outcome::Older
-            | Outcome::Waiting(_)
-            | Outcome::Unnumbered => PartOutcome::Read,
-        }
-    }
-}
-
-/// What a read group notes of a reader's parts, over all datagrams since the group was made.
+/// What a read group notes of a reader's parts, over all datagrams since the group was made. Each count stands at 2^64 - 1.
 #[derive(Clone, Copy, Debug, Default, PartialEq, Eq)]
 pub struct Notice {
     /// Why the last part that couldn't be read couldn't.
     pub fault: Option<PartFault>,
-    /// How many parts couldn't be read. The count stands at 2^64 - 1.
+    /// The field whose value has that fault, with its type byte. None where no value has it, and where the values are RawData.
+    pub field: Option<FieldFault>,
+    /// How many parts couldn't be read.
     pub bad: u64,
     /// The major version of the last message that was passed over for being of another one than the data set.
     pub major: Option<u32>,
+    /// How many messages were missing by their numbers, as the reader found at each break in their run: those from the number that
+    /// was due to the one before what came. A late message stays counted, and is passed over as older. A cut counts none.
+    pub lost: u64,
+    /// How often a row was stored: by a key frame, or by a delta frame that follows the row.
+    pub stored: u64,
+    /// The moment, in milliseconds, of the last message that the reader took. One that is passed over isn't taken.
+    pub seen: Option<u64>,
 }
 
 impl Notice {
     ghost use Rattle.reader_group.specs.Notices.{noted_by};
 
-    /// Notes what became of the parts of a datagram.
-    pub(crate) fn note(&mut self, account: &Account)
-        ensures { self.new ≡ noted_by account.now self.old }
+    /// Notes what became of the parts of a datagram that came at this moment.
+    pub(crate) fn note(&mut self, now: u64, account: &Account)
+        ensures { self.new ≡ noted_by now account.now self.old }
     {
-        if account.fault.is_some() {
-            self.fault = account.fault;
+        let findings = account.findings;
+        if findings.fault.is_some() {
+            self.fault = findings.fault;
+            self.field = findings.field;
         }
-        if account.major.is_some() {
-            self.major = account.major;
+        if findings.major.is_some() {
+            self.major = findings.major;
         }
-        self.bad = self.bad.saturating_add(u64::from(account.tally.bad));
+        if findings.taken {
+            self.seen = Some(now);
+        }
+        self.bad = more_of(self.bad, u64::from(account.tally.bad));
+        self.lost = more_of(self.lost, findings.lost);
+        self.stored = more_of(self.stored, findings.stored);
     }
 }

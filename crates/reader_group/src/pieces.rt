@@ -5,6 +5,7 @@ ghost use Rattle.seq_number.specs.Numbers.{number_of_place};
 ghost use Rattle.chunker.specs.Joining.{chunk_of};
 ghost use Rattle.fixed_layout.specs.Datagrams.{slot_of};
 ghost use Rattle.reader_group.specs.MemberWords.{IsLaidIn};
+ghost use Rattle.reader_group.specs.Notices.{bad_frame, bad_part};
 ghost use Rattle.reader_group.specs.Payloads.{reader_slot};
 
 use crate::account::Account;
@@ -15,7 +16,7 @@ use crate::receipt::Receipt;
 use crate::slot_frame::read_slot_frame_into;
 use chunker::{Joined, Joiner, read_chunk};
 use dataset_meta::Meta;
-use frame_codec::{FrameFault, read_frame_into};
+use frame_codec::{FrameFault, field_fault, read_frame_into};
 use ps_config::ReaderPart;
 
 impl Member {
@@ -143,11 +144,11 @@ impl Member {
         ensures reader { HoldsRowsOf meta.now self.new }
     {
         let Some(bytes) = slot_of(part, datagram) else {
-            return PartOutcome::Bad(PartFault::Missing);
+            return bad(PartFault::Missing);
         };
         match self.read_slot(meta, bytes) {
             Ok(()) => self.give_kept(meta, receipt),
-            Err(fault) => PartOutcome::Bad(PartFault::Frame(fault)),
+            Err(fault) => bad_frame(meta, bytes, fault),
         }
     }
 
@@ -171,7 +172,7 @@ impl Member {
     {
         match self.read(meta, bytes) {
             Ok(()) => self.give_kept(meta, receipt),
-            Err(fault) => PartOutcome::Bad(PartFault::Frame(fault)),
+            Err(fault) => bad_frame(meta, bytes, fault),
         }
     }
 
@@ -195,7 +196,7 @@ impl Member {
     {
         let chunk = match read_chunk(bytes) {
             Ok(chunk) => chunk,
-            Err(fault) => return PartOutcome::Bad(PartFault::Chunk(fault)),
+            Err(fault) => return bad(PartFault::Chunk(fault)),
         };
         match lay(
             &mut self.joiner,
@@ -205,12 +206,10 @@ impl Member {
             chunk.data,
         ) {
             Joined::Whole(_) => self.joined(meta, receipt),
-            Joined::Part | Joined::Older => PartOutcome::Read,
-            Joined::TooLong { total } => PartOutcome::Bad(PartFault::TooLong { total }),
-            Joined::BadRange { offset, total } => {
-                PartOutcome::Bad(PartFault::BadRange { offset, total })
-            }
-            Joined::Differs { first, now } => PartOutcome::Bad(PartFault::Differs { first, now }),
+            Joined::Part | Joined::Older => PartOutcome::Laid,
+            Joined::TooLong { total } => bad(PartFault::TooLong { total }),
+            Joined::BadRange { offset, total } => bad(PartFault::BadRange { offset, total }),
+            Joined::Differs { first, now } => bad(PartFault::Differs { first, now }),
         }
     }
 
@@ -222,7 +221,7 @@ impl Member {
     {
         match self.read_joined(meta) {
             Ok(()) => self.give_kept(meta, receipt),
-            Err(fault) => PartOutcome::Bad(PartFault::Frame(fault)),
+            Err(fault) => bad_frame(meta, self.joiner.bytes(), fault),
         }
     }
 
@@ -245,8 +244,25 @@ impl Member {
         carries_short(self.frame.number);
         let took = self.reader.frame(meta, &self.frame, receipt.stamp);
         self.note(receipt.moment, took.outcome);
-        PartOutcome::of(took.outcome)
+        PartOutcome::Given(took)
     }
+}
+
+// A frame that can't be read, and the field at which it can't, which is sought once more.
+fn bad_frame(meta: &Meta, bytes: &[u8], fault: FrameFault) -> PartOutcome
+    ensures { result ≡ bad_frame meta.now bytes.now fault }
+{
+    PartOutcome::Bad {
+        fault: PartFault::Frame(fault),
+        field: field_fault(meta, bytes),
+    }
+}
+
+// A part that can't be read for what is no field's.
+fn bad(fault: PartFault) -> PartOutcome
+    ensures { result ≡ bad_part fault }
+{
+    PartOutcome::Bad { fault, field: None }
 }
 
 // A number that is carried has 16 bits.

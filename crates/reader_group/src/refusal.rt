@@ -47,7 +47,7 @@ impl fmt::Display for Refusal {
         match self {
             Refusal::Header(fault) => write!(f, "no header was read: {fault}"),
             Refusal::NotOurs => f.write_str(
-                "the publisher, the group, its version or the class id isn't the one that the read group asks for",
+                "the publisher, the group, its version, the class id or the NetworkMessageNumber isn't the one that the read group asks for",
             ),
             Refusal::NoIds => {
                 f.write_str("there is no payload header, which a dynamic layout wants")

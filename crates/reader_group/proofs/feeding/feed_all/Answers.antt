@@ -19,7 +19,7 @@ loop-index-init c =
     let payload = payload_in c.args.payload.now in
     record {
       fed = fed-none seats (feeding c.args.receipt.now c.args.raised c.args.on.now payload) c.args.members.now _ c.requires.readers refl refl;
-      noted = λ values are. noted-none seats values (accounting c.args.receipt.now c.args.raised c.args.on.now payload) c.args.notices.now;
+      noted = λ values are. noted-none seats values (accounting c.args.receipt.now c.args.raised c.args.on.now payload) c.args.receipt.now.moment c.args.notices.now;
       notices = refl;
     }
 
@@ -89,7 +89,7 @@ loop-index-preserved c =
           subst (λ (on : Bool). Accounts (account_by (seat_of part meta) receipt c.args.raised on payload (member_at values i)) c.feed_at-account.result) c.is_on-enabled.ensures account in
           let own : Accounts (g i (seat_at seats i) (member_at values i)) c.feed_at-account.result =
           subst (λ (seat : Seat). Accounts (g i seat (member_at values i)) c.feed_at-account.result) (sym is) enabled in
-          noted-more seats values g c.args.notices.now i c.loop-index.notices c.note_at.new.notices c.feed_at-account.result (omega arith) c.note_at.ensures own noted;
+          noted-more seats values g receipt.moment c.args.notices.now i c.loop-index.notices c.note_at.new.notices c.feed_at-account.result (omega arith) c.note_at.ensures own noted;
       notices = ap length c.note_at.ensures ∙ length-set c.loop-index.notices i _ ∙ c.loop-index.invariant.notices;
     }
 

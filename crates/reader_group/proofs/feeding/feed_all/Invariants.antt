@@ -11,6 +11,6 @@ abbrev pub invariant-loop-index : goal.invariant-loop-index
 invariant-loop-index l = record {
   fed : FedBelow (setting_by l.config l.group).seats (feeding l.receipt l.raised l.on (payload_in l.payload)) l.fn.members l.index l.members l.tally;
   noted : (values : List MemberValue) → AreMembers (setting_by l.config l.group).seats values l.fn.members
-      → NotedBelow (setting_by l.config l.group).seats values (accounting l.receipt l.raised l.on (payload_in l.payload)) l.fn.notices l.index l.notices;
+      → NotedBelow (setting_by l.config l.group).seats values (accounting l.receipt l.raised l.on (payload_in l.payload)) l.receipt.moment l.fn.notices l.index l.notices;
   notices : length l.notices ≡ length l.fn.notices;
 }

@@ -3,6 +3,8 @@ use Rattle.message_guard.specs.declared.keys.TokenKeys.{TokenKeys}
 use Rattle.std.proofs.lemmas.List.{with_items_is}
 use Rattle.reader_group.specs.Held.{payload_in}
 use Rattle.reader_group.specs.Groups.{AreMembers, Stands, guard_of, members_of, index_of, setting_with}
+use Rattle.ps_config.specs.Headers.{mode_of}
+use Rattle.reader_group.specs.LastTaken.{pair_on}
 use Rattle.reader_group.specs.Plain.{PlainGroup, with_keys}
 use Rattle.reader_group.specs.Settings.{setting_by}
 use Rattle.reader_group.proofs.Made.{part_contained, setup-mode}
@@ -54,7 +56,7 @@ returns-clause-step c = λ keys plain h.
     let count = c.feed_all-tally.ensures.readers.count ∙ sym (made_readers c.args.config.now old part c.requires.made c.part_at-part.ensures).count in
     taken_step c.args.config.now old _ c.accept-raised.new.self members part keys plain c.args.now c.args.on.now c.args.bytes.now c.open.new.bytes c.in_ok-begun.begun c.open.new.room
     c.accept-raised.result (receipt_with c.args.now c.stamp_of.result) (payload_in c.payload_held-payload.result) c.feed_all-tally.result c.requires.made c.part_at-part.ensures
-    (taken c keys plain h) refl (with_items_is old.members members (count ∙ sym old.members.ok.0))
+    (taken c keys plain h) refl (c.pair_on.ensures ∙ ap (pair_on (mode_of part.security) c.in_ok-begun.begun.pass) h.pair) (with_items_is old.members members (count ∙ sym old.members.ok.0))
 
 pub returns-clause-answer : goal.returns-clause-answer
 returns-clause-answer c = λ keys plain h.

@@ -13,4 +13,4 @@ pub returns-else-enabled-clause-fed : goal.returns-else-enabled-clause-fed
 returns-else-enabled-clause-fed c = λ member h.
     let seat = seat_of c.args.part.now c.args.meta.now in
     rw c.if-enabled.false
-    (record { member_is = c.cut_if_raised.ensures.member seat member h; matched = refl; accounts = record { bad = refl; fault = refl; major = refl } })
+    (record { member_is = c.cut_if_raised.ensures.member seat member h; matched = refl; accounts = record { bad = refl; findings = refl } })

@@ -10,11 +10,11 @@ pub returns-in-Ok-clause-case : goal.returns-in-Ok-clause-case
 returns-in-Ok-clause-case c = λ part member h.
     let meta = c.args.meta.now in
     let seat = seat_of part meta in
-    read_follows seat c.args.receipt.now member (frame_in meta.fields c.read_joined.new.self.frame) (frame_at meta (joined_bytes member.joining)) c.give_kept.new.self c.give_kept.result (sym (c.in-Ok.ensures.answer member.joining h.joining))
+    read_follows seat c.args.receipt.now member (frame_in meta.fields c.read_joined.new.self.frame) (joined_bytes member.joining) (frame_at meta (joined_bytes member.joining)) c.give_kept.new.self c.give_kept.result (sym (c.in-Ok.ensures.answer member.joining h.joining))
     (c.give_kept.ensures.member part member (c.in-Ok.ensures.member seat member h))
 
 pub returns-in-Err-clause-case : goal.returns-in-Err-clause-case
 returns-in-Err-clause-case c = λ part member h.
     let meta = c.args.meta.now in
     let seat = seat_of part meta in
-    refused_follows seat c.args.receipt.now member _ (frame_at meta (joined_bytes member.joining)) c.read_joined.new.self (sym (c.in-Err.ensures.answer member.joining h.joining)) (c.in-Err.ensures.member seat member h)
+    refused_follows seat c.args.receipt.now member _ (joined_bytes member.joining) (frame_at meta (joined_bytes member.joining)) c.read_joined.new.self (sym (c.in-Err.ensures.answer member.joining h.joining)) (c.in-Err.ensures.member seat member h)

@@ -9,11 +9,11 @@ pub returns-in-Ok-clause-case : goal.returns-in-Ok-clause-case
 returns-in-Ok-clause-case c = λ part member h.
     let meta = c.args.meta.now in
     let seat = seat_of part meta in
-    read_follows seat c.args.receipt.now member (frame_in meta.fields c.read.new.self.frame) (frame_at meta c.args.bytes.now) c.give_kept.new.self c.give_kept.result (sym c.in-Ok.ensures.answer)
+    read_follows seat c.args.receipt.now member (frame_in meta.fields c.read.new.self.frame) c.args.bytes.now (frame_at meta c.args.bytes.now) c.give_kept.new.self c.give_kept.result (sym c.in-Ok.ensures.answer)
     (c.give_kept.ensures.member part member (c.in-Ok.ensures.member seat member h))
 
 pub returns-in-Err-clause-case : goal.returns-in-Err-clause-case
 returns-in-Err-clause-case c = λ part member h.
     let meta = c.args.meta.now in
     let seat = seat_of part meta in
-    refused_follows seat c.args.receipt.now member _ (frame_at meta c.args.bytes.now) c.read.new.self (sym c.in-Err.ensures.answer) (c.in-Err.ensures.member seat member h)
+    refused_follows seat c.args.receipt.now member _ c.args.bytes.now (frame_at meta c.args.bytes.now) c.read.new.self (sym c.in-Err.ensures.answer) (c.in-Err.ensures.member seat member h)

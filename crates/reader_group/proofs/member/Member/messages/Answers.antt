@@ -13,7 +13,7 @@ loop-index-init c =
     record {
       fed = λ member is.
           unfed-passed (seat_of part c.args.meta.now) c.args.receipt.now part member c.args.messages.now c.next_of-index.result _ _ c.next_of-index.ensures.passed
-          (record { member_is = is; matched = refl; accounts = record { bad = refl; fault = refl; major = refl } });
+          (record { member_is = is; matched = refl; accounts = record { bad = refl; findings = refl } });
       reader = c.requires;
       matched = omega arith;
       bad = omega arith;

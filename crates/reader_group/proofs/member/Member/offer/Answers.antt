@@ -13,8 +13,7 @@ returns-clause-fed c = λ fed h.
     let counts : Counts c.args.account.now c.count.new.self outcome = record {
       matched = c.count.ensures.matched;
       bad = c.count.ensures.bad;
-      fault = c.count.ensures.fault;
-      major = c.count.ensures.major;
+      findings = c.count.ensures.findings;
     } in
     offered-own (seat_of c.args.part.now c.args.meta.now) c.args.receipt.now writer writer fed (listed_at messages c.args.index) c.message.result.now c.args.self.now c.message-outcome.new.self
     c.args.account.now c.count.new.self outcome c.requires.own refl

@@ -21,7 +21,7 @@ returns-in-Ok-clause-case c = λ member h.
     let meta = c.args.meta.now in
     let seat = seat_of c.args.part.now meta in
     subst (FollowsSlot seat c.args.receipt.now member c.give_kept.new.self c.give_kept.result) c.in-Some.ensures
-    (read_follows seat c.args.receipt.now member (frame_in meta.fields c.read_slot.new.self.frame) (slot_frame_at meta c.in-Some.bytes.now) c.give_kept.new.self c.give_kept.result
+    (read_follows seat c.args.receipt.now member (frame_in meta.fields c.read_slot.new.self.frame) c.in-Some.bytes.now (slot_frame_at meta c.in-Some.bytes.now) c.give_kept.new.self c.give_kept.result
     (sym c.in-Ok.ensures.answer) (c.give_kept.ensures.member c.args.part.now member (c.in-Ok.ensures.member seat member h)))
 
 pub returns-in-Err-clause-case : goal.returns-in-Err-clause-case
@@ -29,4 +29,4 @@ returns-in-Err-clause-case c = λ member h.
     let meta = c.args.meta.now in
     let seat = seat_of c.args.part.now meta in
     subst (FollowsSlot seat c.args.receipt.now member c.read_slot.new.self _) c.in-Some.ensures
-    (refused_follows seat c.args.receipt.now member _ (slot_frame_at meta c.in-Some.bytes.now) c.read_slot.new.self (sym c.in-Err.ensures.answer) (c.in-Err.ensures.member seat member h))
+    (refused_follows seat c.args.receipt.now member _ c.in-Some.bytes.now (slot_frame_at meta c.in-Some.bytes.now) c.read_slot.new.self (sym c.in-Err.ensures.answer) (c.in-Err.ensures.member seat member h))

@@ -17,7 +17,7 @@ returns-in-Chunk-clause-fed c = λ member h.
     let bytes = c.in-Chunk.bytes.now in
     let one = c.of_one-in-Chunk in
     let fed = one-fed seat c.args.receipt.now member (Chunked bytes) c.args.self.now c.chunk.new.self c.chunk.result one.result h (c.chunk.ensures.case part member h)
-    one.ensures.matched one.ensures.bad one.ensures.fault one.ensures.major in
+    one.ensures.matched one.ensures.bad one.ensures.findings in
     subst (λ (payload : Payload). IsFed seat (fold (account_on seat c.args.receipt.now) (no_account member) (pieces part (payload_in payload))) c.chunk.new.self one.result) (sym c.in-Chunk.is)
     (own-chunk seat c.args.receipt.now member part c.in-Chunk.writer bytes c.chunk.new.self one.result c.if-writer-part.true fed)
 
@@ -28,5 +28,5 @@ returns-in-Slots-clause-fed c = λ member h.
     let piece = slot_piece (slot_of c.in-Slots.datagram.now (reader_slot part)) in
     let one = c.of_one in
     let fed = one-fed seat c.args.receipt.now member piece c.args.self.now c.slot.new.self c.slot.result one.result h (c.slot.ensures.case member h)
-    one.ensures.matched one.ensures.bad one.ensures.fault one.ensures.major in
+    one.ensures.matched one.ensures.bad one.ensures.findings in
     subst (λ (payload : Payload). IsFed seat (fold (account_on seat c.args.receipt.now) (no_account member) (pieces part (payload_in payload))) c.slot.new.self one.result) (sym c.in-Slots.is) fed
