@@ -2,6 +2,7 @@
 use crate::strip::Strip;
 use dataset_meta::Meta;
 use std::marker::Model;
+use std::sync::atomic::{AtomicU64, Ordering};
 
 /// The rows of a data set, one after another. Its words are the version (the number of entries), the count of numbers given, the
 /// quotas of the eight authors, the 16 words of the shape of the meta, and the last row: its first 8, 32, 80 or all 125 words,
@@ -13,6 +14,8 @@ pub struct Cell {
     pub(crate) meta: Meta,
     // The quotas, and behind them the shape.
     pub(crate) terms: [u64; 24],
+    // The highest version that a call has answered. No clause speaks of it.
+    pub(crate) newest: AtomicU64,
 }
 
 impl Model for Cell {
@@ -57,5 +60,17 @@ impl Cell {
         ensures cell { IsCell self.now }
     {
         &self.meta
+    }
+
+    // Whether each call that has ended answered this version or a lower one.
+    #[inline(always)]
+    pub(crate) fn is_newest(&self, version: u64) -> bool {
+        self.newest.load(Ordering::SeqCst) == version
+    }
+
+    // A call tells the version that it answers before it ends.
+    #[inline(always)]
+    pub(crate) fn tell(&self, version: u64) {
+        self.newest.fetch_max(version, Ordering::SeqCst);
     }
 }

@@ -17,6 +17,7 @@ use dataset_meta::Meta;
 use row_words::Row;
 use std::alloc::Global;
 use std::sync::Wait;
+use std::sync::atomic::AtomicU64;
 use ua_base::NoMemory;
 
 impl Cell {
@@ -39,7 +40,14 @@ impl Cell {
         let row = words_of_rows(meta);
         let meta = meta.copy(alloc)?;
         let (words, first, passes) = begun(rt, alloc, row, &terms)?;
-        Ok((Cell { words, meta, terms }, first, passes))
+        let newest = AtomicU64::new(0);
+        let cell = Cell {
+            words,
+            meta,
+            terms,
+            newest,
+        };
+        Ok((cell, first, passes))
     }
 }
 

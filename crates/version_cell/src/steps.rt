@@ -12,17 +12,22 @@ use row_words::{Patch, patched_words_belong, words_belong_by_shape};
 use std::sync::Wait;
 
 impl Cell {
-    /// One load, and the answer is the version that the pass has then seen. The contract binds the answer to what the pass has
-    /// seen, and that to what it had seen before; it doesn't say that the load is made now.
+    /// The answer is the version that the pass has then seen. One load of the words, and none where no call has answered a later
+    /// version than the pass has seen. The contract binds the answer to what the pass has seen, and that to what it had seen before;
+    /// it doesn't say that the load is made now.
     pub fn read<R: Wait>(&self, rt: &R, pass: &mut Pass) -> u64
         requires own { IsPassOf self.now pass.old }
         ensures seen { SeesMore pass.old pass.new }
         ensures version { result ≡ length pass.new.seen }
         ensures lawful { SeesLawful pass.new }
     {
+        if self.is_newest(pass.version) {
+            return pass.version;
+        }
         let mut head = [0u64; 26];
         load_words(rt, &self.words, &mut pass.place, &mut head, &mut pass.row);
         pass.version = head[0];
+        self.tell(head[0]);
         pass.version
     }
 
@@ -57,11 +62,13 @@ impl Cell {
                 pass.version += 1;
                 pass.row = row;
                 pass.made += 1;
+                self.tell(pass.version);
                 Wrote::Wrote(pass.version)
             }
             Err(words) => {
                 pass.version = words[0];
                 pass.row = row_in(&words);
+                self.tell(pass.version);
                 Wrote::Moved {
                     version: pass.version,
                 }

@@ -32,6 +32,7 @@ impl Cell {
         pass.version = version;
         pass.row = *row;
         pass.made += 1;
+        self.tell(version);
         version
     }
 }

@@ -10,19 +10,19 @@ use Rattle.version_cell.proofs.strip.Strip.compare_exchange_as.Goals as goal
 pub exchange_in-requires : goal.exchange_in-requires
 exchange_in-requires g c =
     let a = c.in-Narrow-Narrow in
-    search (rules, stands_here _ (strip.Narrow a.words) 34 (words_of c.args.current.now) a.is-0 a.words.wide.0 c.requires.current, stands_here _ (strip.Narrow a.words) 34 (words_of c.args.new.now) a.is-0 a.words.wide.0 c.requires.new, own_here _ (seats.Narrow a.seat) _ a.is-1 c.place.view_is _ (strip.Narrow a.words) a.is-0 c.requires.own, turns_here _ (seats.Narrow a.seat) _ a.is-1 c.place.view_is (λ x. if pointwise nat_eq x (words_of c.args.current.now) then (words_of c.args.new.now) else x) g.M.Outcome.then c.requires.rule)
+    (search rules, (search rules, (search rules, (search rules, (search rules, (search rules, (stands_here _ (strip.Narrow a.words) 34 (words_of c.args.current.now) a.is-0 a.words.wide.0 c.requires.current, (stands_here _ (strip.Narrow a.words) 34 (words_of c.args.new.now) a.is-0 a.words.wide.0 c.requires.new, (own_here _ (seats.Narrow a.seat) _ a.is-1 c.place.view_is _ (strip.Narrow a.words) a.is-0 c.requires.own, turns_here _ (seats.Narrow a.seat) _ a.is-1 c.place.view_is (λ x. if pointwise nat_eq x (words_of c.args.current.now) then words_of c.args.new.now else x) g.M.Outcome.then c.requires.rule)))))))))
 
 pub exchange_in-requires-in-Short-Short : goal.exchange_in-requires-in-Short-Short
 exchange_in-requires-in-Short-Short g c =
     let a = c.in-Short-Short in
-    search (rules, stands_here _ (strip.Short a.words) 58 (words_of c.args.current.now) a.is-0 a.words.wide.0 c.requires.current, stands_here _ (strip.Short a.words) 58 (words_of c.args.new.now) a.is-0 a.words.wide.0 c.requires.new, own_here _ (seats.Short a.seat) _ a.is-1 c.place.view_is _ (strip.Short a.words) a.is-0 c.requires.own, turns_here _ (seats.Short a.seat) _ a.is-1 c.place.view_is (λ x. if pointwise nat_eq x (words_of c.args.current.now) then (words_of c.args.new.now) else x) g.M.Outcome.then c.requires.rule)
+    (search rules, (search rules, (search rules, (search rules, (search rules, (search rules, (stands_here _ (strip.Short a.words) 58 (words_of c.args.current.now) a.is-0 a.words.wide.0 c.requires.current, (stands_here _ (strip.Short a.words) 58 (words_of c.args.new.now) a.is-0 a.words.wide.0 c.requires.new, (own_here _ (seats.Short a.seat) _ a.is-1 c.place.view_is _ (strip.Short a.words) a.is-0 c.requires.own, turns_here _ (seats.Short a.seat) _ a.is-1 c.place.view_is (λ x. if pointwise nat_eq x (words_of c.args.current.now) then words_of c.args.new.now else x) g.M.Outcome.then c.requires.rule)))))))))
 
 pub exchange_in-requires-in-Long-Long : goal.exchange_in-requires-in-Long-Long
 exchange_in-requires-in-Long-Long g c =
     let a = c.in-Long-Long in
-    search (rules, stands_here _ (strip.Long a.words) 106 (words_of c.args.current.now) a.is-0 a.words.wide.0 c.requires.current, stands_here _ (strip.Long a.words) 106 (words_of c.args.new.now) a.is-0 a.words.wide.0 c.requires.new, own_here _ (seats.Long a.seat) _ a.is-1 c.place.view_is _ (strip.Long a.words) a.is-0 c.requires.own, turns_here _ (seats.Long a.seat) _ a.is-1 c.place.view_is (λ x. if pointwise nat_eq x (words_of c.args.current.now) then (words_of c.args.new.now) else x) g.M.Outcome.then c.requires.rule)
+    (search rules, (search rules, (search rules, (search rules, (search rules, (search rules, (stands_here _ (strip.Long a.words) 106 (words_of c.args.current.now) a.is-0 a.words.wide.0 c.requires.current, (stands_here _ (strip.Long a.words) 106 (words_of c.args.new.now) a.is-0 a.words.wide.0 c.requires.new, (own_here _ (seats.Long a.seat) _ a.is-1 c.place.view_is _ (strip.Long a.words) a.is-0 c.requires.own, turns_here _ (seats.Long a.seat) _ a.is-1 c.place.view_is (λ x. if pointwise nat_eq x (words_of c.args.current.now) then words_of c.args.new.now else x) g.M.Outcome.then c.requires.rule)))))))))
 
 pub exchange_in-requires-in-Whole-Whole : goal.exchange_in-requires-in-Whole-Whole
 exchange_in-requires-in-Whole-Whole g c =
     let a = c.in-Whole-Whole in
-    search (rules, stands_here _ (strip.Whole a.words) 151 (words_of c.args.current.now) a.is-0 a.words.wide.0 c.requires.current, stands_here _ (strip.Whole a.words) 151 (words_of c.args.new.now) a.is-0 a.words.wide.0 c.requires.new, own_here _ (seats.Whole a.seat) _ a.is-1 c.place.view_is _ (strip.Whole a.words) a.is-0 c.requires.own, turns_here _ (seats.Whole a.seat) _ a.is-1 c.place.view_is (λ x. if pointwise nat_eq x (words_of c.args.current.now) then (words_of c.args.new.now) else x) g.M.Outcome.then c.requires.rule)
+    (search rules, (search rules, (search rules, (search rules, (search rules, (search rules, (stands_here _ (strip.Whole a.words) 151 (words_of c.args.current.now) a.is-0 a.words.wide.0 c.requires.current, (stands_here _ (strip.Whole a.words) 151 (words_of c.args.new.now) a.is-0 a.words.wide.0 c.requires.new, (own_here _ (seats.Whole a.seat) _ a.is-1 c.place.view_is _ (strip.Whole a.words) a.is-0 c.requires.own, turns_here _ (seats.Whole a.seat) _ a.is-1 c.place.view_is (λ x. if pointwise nat_eq x (words_of c.args.current.now) then words_of c.args.new.now else x) g.M.Outcome.then c.requires.rule)))))))))
