@@ -212,6 +212,7 @@ impl ReaderGroup {
     pub fn expire(&mut self, now: u64)
         ensures step { (setting : Setting) → TakesOn setting (Expired now) self.old self.new }
         ensures refused { refused_of self.new ≡ refused_of self.old }
+        ensures pair { pair_of self.new ≡ pair_of self.old }
         ensures notices { notices_of self.new ≡ notices_of self.old }
         ensures made { (config : AnyConfig) → IsMadeOf config self.old → IsMadeOf config self.new }
         ensures index { index_of self.new ≡ index_of self.old }
@@ -225,6 +226,7 @@ impl ReaderGroup {
         requires { index < reader_count self.old }
         ensures step { (setting : Setting) → TakesOn setting (Stopped index why) self.old self.new }
         ensures refused { refused_of self.new ≡ refused_of self.old }
+        ensures pair { pair_of self.new ≡ pair_of self.old }
         ensures notices { notices_of self.new ≡ notices_of self.old }
         ensures made { (config : AnyConfig) → IsMadeOf config self.old → IsMadeOf config self.new }
         ensures index { index_of self.new ≡ index_of self.old }
@@ -238,6 +240,7 @@ impl ReaderGroup {
         ensures keys { GoesOnWith (map keys_in (key_sets ring)) self.old self.new }
         ensures members { members_of self.new ≡ members_of self.old }
         ensures refused { refused_of self.new ≡ refused_of self.old }
+        ensures pair { pair_of self.new ≡ pair_of self.old }
         ensures notices { notices_of self.new ≡ notices_of self.old }
         ensures made { (config : AnyConfig) → IsMadeOf config self.old → IsMadeOf config self.new }
         ensures index { index_of self.new ≡ index_of self.old }
