@@ -61,10 +61,10 @@ state-read state is = record { fingerprint = fingerprint; words = words }
         ap (λ (l : List ℕ). take 32 (drop 8 l)) parts
         ∙ take-front state.fingerprint (words_bytes state.words ++ checksum_of (body_of state)) 32 is.fingerprint
 
-    words : words_in 24 (drop 40 (written state)) ≡ state.words
+    words : words_in 72 (drop 40 (written state)) ≡ state.words
     words =
-        ap (λ (l : List ℕ). words_in 24 (drop 40 l)) parts
-        ∙ ap (λ (l : List ℕ). words_in 24 l) (drop-front (head ++ state.fingerprint) (words_bytes state.words ++ checksum_of (body_of state)) 40 (omega (arith, is.fingerprint, length-append head state.fingerprint)))
+        ap (λ (l : List ℕ). words_in 72 (drop 40 l)) parts
+        ∙ ap (λ (l : List ℕ). words_in 72 l) (drop-front (head ++ state.fingerprint) (words_bytes state.words ++ checksum_of (body_of state)) 40 (omega (arith, is.fingerprint, length-append head state.fingerprint)))
         ∙ subst (λ (n : ℕ). words_in n (words_bytes state.words ++ checksum_of (body_of state)) ≡ state.words) is.count (words-back state.words (checksum_of (body_of state)) is.words)
 
 pub same-states : (one other : StoredState) → IsState one → IsState other → written one ≡ written other → one ≡ other
@@ -72,5 +72,5 @@ same-states one other is_one is_other same =
     let first = state-read one is_one in
     let second = state-read other is_other in
     let fingerprint : one.fingerprint ≡ other.fingerprint = sym first.fingerprint ∙ ap (λ (l : List ℕ). take 32 (drop 8 l)) same ∙ second.fingerprint in
-    let words : one.words ≡ other.words = sym first.words ∙ ap (λ (l : List ℕ). words_in 24 (drop 40 l)) same ∙ second.words in
+    let words : one.words ≡ other.words = sym first.words ∙ ap (λ (l : List ℕ). words_in 72 (drop 40 l)) same ∙ second.words in
     ap (λ (l : List ℕ). record { fingerprint = l; words = one.words }) fingerprint ∙ ap (λ (l : List ℕ). record { fingerprint = other.fingerprint; words = l }) words

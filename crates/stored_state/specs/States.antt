@@ -5,10 +5,10 @@ use Rattle.byteorder.specs.Endian.{little_bytes, little_number}
 use Rattle.sha2.specs.Sha256.{sha256}
 use Rattle.stored_state.specs.declared.state.StoredState.{StoredState}
 
--- what the type of a state says: its fingerprint has 32 bytes, and it has 24 numbers of 32 bits
+-- what the type of a state says: its fingerprint has 32 bytes, and it has 72 numbers of 32 bits
 pub record IsState (state : StoredState) : Type 0 where
   pub fingerprint : length state.fingerprint ≡ 32
-  pub count : length state.words ≡ 24
+  pub count : length state.words ≡ 72
   pub words : All (λ word. word < 2 ^ 32) state.words
 
 -- "UAPS", the version of the format, and two zeros
@@ -39,7 +39,7 @@ words_in (suc count) bytes = little_number 4 bytes ∷ words_in count (drop 4 by
 -- at the places of a state these bytes have this one
 pub record IsRead (state : StoredState) (bytes : List ℕ) : Type 0 where
   pub fingerprint : take 32 (drop 8 bytes) ≡ state.fingerprint
-  pub words : words_in 24 (drop 40 bytes) ≡ state.words
+  pub words : words_in 72 (drop 40 bytes) ≡ state.words
 
 abbrev pub damaged_text : List ℕ
 damaged_text = codes "the bytes are not those of a state that was stored"

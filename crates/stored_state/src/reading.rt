@@ -7,9 +7,9 @@ use byteorder::{ByteOrder, LittleEndian};
 
 /// What stands at the places of a state, whatever else does.
 pub(crate) fn state_in(bytes: &[u8]) -> StoredState
-    requires { length bytes.now ≡ 144 }
+    requires { length bytes.now ≡ 336 }
     ensures fingerprint { result.fingerprint ≡ take 32 (drop 8 bytes.now) }
-    ensures words { result.words ≡ words_in 24 (drop 40 bytes.now) }
+    ensures words { result.words ≡ words_in 72 (drop 40 bytes.now) }
 {
     let mut fingerprint = [0; 32];
     fingerprint.copy_from_slice(&bytes[8..40]);
@@ -19,12 +19,12 @@ pub(crate) fn state_in(bytes: &[u8]) -> StoredState
     }
 }
 
-fn words_in(bytes: &[u8]) -> [u32; 24]
-    requires { 96 ≤ length bytes.now }
-    ensures { result ≡ words_in 24 bytes.now }
+fn words_in(bytes: &[u8]) -> [u32; 72]
+    requires { 288 ≤ length bytes.now }
+    ensures { result ≡ words_in 72 bytes.now }
 {
-    let mut words = [0; 24];
-    for i in 0..24 {
+    let mut words = [0; 72];
+    for i in 0..72 {
         words[i] = LittleEndian::read_u32(&bytes[4 * i..]);
     }
     words

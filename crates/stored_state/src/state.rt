@@ -9,19 +9,19 @@ use std::error::Error;
 use std::fmt;
 
 /// How many bytes a state has.
-pub const STATE_BYTES: usize = 144;
+pub const STATE_BYTES: usize = 336;
 
 /// How many bytes its fingerprint has.
 pub const FINGERPRINT_BYTES: usize = 32;
 
 /// How many numbers it has.
-pub const STATE_WORDS: usize = 24;
+pub const STATE_WORDS: usize = 72;
 
 /// Numbers to go on after, and the fingerprint of the configuration that they are of.
 #[derive(Clone, Copy)]
 pub struct StoredState {
     pub fingerprint: [u8; 32],
-    pub words: [u32; 24],
+    pub words: [u32; 72],
 }
 
 /// The bytes aren't those of a state: they are too few or too many, of another format or version, or their checksum is another.
@@ -43,7 +43,7 @@ impl Error for Damaged {}
 
 impl StoredState {
     /// Its bytes.
-    pub fn write(&self) -> [u8; 144]
+    pub fn write(&self) -> [u8; 336]
         ensures { result ≡ written self.now }
     {
         let mut bytes = [0; STATE_BYTES];

@@ -12,10 +12,10 @@ const HEAD: [u8; 8] = [85, 65, 80, 83, 1, 0, 0, 0];
 /// Where the numbers begin, and where the checksum does.
 const WORDS_AT: usize = 40;
 
-const CHECKSUM_AT: usize = 136;
+const CHECKSUM_AT: usize = 328;
 
 /// Lays the state's bytes.
-pub(crate) fn put_state(state: &StoredState, bytes: &mut [u8; 144])
+pub(crate) fn put_state(state: &StoredState, bytes: &mut [u8; 336])
     ensures { bytes.new ≡ written state.now }
 {
     bytes[..8].copy_from_slice(&HEAD);
@@ -26,11 +26,11 @@ pub(crate) fn put_state(state: &StoredState, bytes: &mut [u8; 144])
 }
 
 /// Lays each number in 4 bytes, little-endian.
-fn put_words(words: &[u32; 24], bytes: &mut [u8])
-    requires { length bytes.old ≡ 96 }
+fn put_words(words: &[u32; 72], bytes: &mut [u8])
+    requires { length bytes.old ≡ 288 }
     ensures { bytes.new ≡ words_bytes words.now }
 {
-    for i in 0..24 {
+    for i in 0..72 {
         LittleEndian::write_u32(&mut bytes[4 * i..], words[i]);
     }
 }

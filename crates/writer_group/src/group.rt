@@ -1,5 +1,5 @@
 //! Groups of writers.
-ghost use Rattle.std.specs.Prelude.{◌≡◌, ◌↔◌, ◌<◌, ◌≤◌, ◌^◌, All, List, IfNone, IfOk, IfSome, IsTrue, length, slice_index_or};
+ghost use Rattle.std.specs.Prelude.{◌≡◌, ◌↔◌, ◌<◌, ◌≤◌, ◌^◌, All, List, ℕ, IfNone, IfOk, IfSome, IsTrue, length, slice_index_or};
 ghost use Rattle.std.specs.Option.{ForSome, option_copied};
 ghost use Rattle.message_guard.specs.Senders.{IsSender};
 ghost use Rattle.ps_config.specs.Beginning.{config_beginning};
@@ -131,6 +131,7 @@ impl Group {
         ensures made { IsMadeBeginning index first_number self.old self.new }
         ensures stands { HasBegun index first_number self.old self.new }
         ensures goes_on { GoesOnBegun index first_number self.old self.new }
+        ensures logged { (most : ℕ) → AreLogged most self.old → AreLogged most self.new }
         ensures keeps_to { (config : Config) → KeepsTo config self.old
             → KeepsTo (config_beginning (index_of self.old) index first_number config) self.new }
     {

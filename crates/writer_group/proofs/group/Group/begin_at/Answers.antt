@@ -1,6 +1,9 @@
-use Rattle.std.proofs.Common.{ℕ, get_or, refl, set, sym, ap, ◌∙◌, arith}
+use Rattle.std.proofs.Common.{◌≡◌, ℕ, List, get_or, refl, set, subst, sym, ap, ◌∙◌, arith, All}
 use Rattle.std.specs.Vec.{with_item}
 use Rattle.std.proofs.lemmas.List.{get_or_default}
+use Rattle.std.proofs.lemmas.List.Elements.{All-set}
+use Rattle.dataset_writer.specs.declared.writer.Writer.{Writer}
+use Rattle.dataset_writer.specs.Standing.{logged_by}
 use Rattle.writer_group.specs.declared.group.Group.{Group}
 use Rattle.writer_group.proofs.BegunLaws.{IsBegun, goes-begun, group-begun, keeps-begun, made-begun}
 use Rattle.writer_group.proofs.group.Group.begin_at.Goals as goal
@@ -37,6 +40,14 @@ pub returns-clause-goes_on : goal.returns-clause-goes_on
 returns-clause-goes_on c = λ metas others part turns there same goes.
     let r = (goal.at.returns-clause-goes_on c).After-begin_at in
     goes-begun metas others part turns c.args.index c.args.first_number c.args.self.now (after r) c.index_mut.result.now c.begin_at.new.self (begun r) there same refl c.args.self.now.writers.ok.0 goes
+
+pub returns-clause-logged : goal.returns-clause-logged
+returns-clause-logged c = λ most all.
+    let r = (goal.at.returns-clause-logged c).After-begin_at in
+    let is = begun r in
+    subst (λ (l : List Writer). All (λ writer. logged_by writer ≡ most) l) (sym is.new_is)
+    (All-set (λ (writer : Writer). logged_by writer ≡ most) c.args.self.now.writers.items c.args.index c.begin_at.new.self
+    (c.begin_at.ensures.logged ∙ subst (λ (writer : Writer). logged_by writer ≡ most) (is.old_is c.index_mut.result.now) (all c.args.index c.index_mut.result.now is.within)) all)
 
 pub returns-clause-keeps_to : goal.returns-clause-keeps_to
 returns-clause-keeps_to c = λ config keeps.
