@@ -79,10 +79,12 @@ static void demand_of_readers(struct uap_handle *handle, uint32_t group, uint32_
     uint64_t age;
     struct uap_fault fault;
     struct uap_passed passed;
+    struct uap_received received;
     DEMAND(uap_reader_enable(handle, group, reader) == status && uap_reader_disable(handle, group, reader) == status);
     DEMAND(uap_reader_why(handle, group, reader, &why) == status && uap_reader_number(handle, group, reader, &number) == status);
     DEMAND(uap_reader_age(handle, group, reader, 0, &age) == status && uap_reader_is_fresh(handle, group, reader, 0, 9) == status);
     DEMAND(uap_reader_last_fault(handle, group, reader, &fault) == status && uap_reader_passed(handle, group, reader, &passed) == status);
+    DEMAND(uap_reader_received(handle, group, reader, &received) == status);
 }
 
 static void demand_of_key_groups(struct uap_handle *handle, uint32_t keygroup, uint32_t status) {
@@ -93,8 +95,10 @@ static void demand_of_key_groups(struct uap_handle *handle, uint32_t keygroup, u
 
 static void demand_of_read_groups(struct uap_handle *handle, uint32_t group, uint32_t status) {
     struct uap_refused refused;
+    struct uap_last_taken last;
     DEMAND(uap_subscriber_datagram(handle, group, 0, bytes, 4, &taken) == status && uap_subscriber_renew(handle, group, &keys, 1) == status);
     DEMAND(uap_read_group_refused(handle, group, &refused) == status && uap_read_group_only(handle, group, 1) == status);
+    DEMAND(uap_read_group_last_taken(handle, group, &last) == status);
 }
 
 static void demand_of_publisher(struct uap_handle *handle, uint32_t status) {
@@ -212,7 +216,8 @@ static void check_null_outputs(struct uap_handle *publisher, struct uap_handle *
     DEMAND(uap_own_bytes(publisher, 0, 0, NULL, 0, &length) == UAP_NULL && uap_own_guid(publisher, 0, 0, NULL) == UAP_NULL);
     DEMAND(uap_reader_age(subscriber, 0, 0, 0, NULL) == UAP_NULL && uap_subscriber_due(subscriber, 0, NULL) == UAP_NULL);
     DEMAND(uap_reader_last_fault(subscriber, 0, 0, NULL) == UAP_NULL && uap_reader_passed(subscriber, 0, 0, NULL) == UAP_NULL);
-    DEMAND(uap_read_group_refused(subscriber, 0, NULL) == UAP_NULL);
+    DEMAND(uap_read_group_refused(subscriber, 0, NULL) == UAP_NULL && uap_reader_received(subscriber, 0, 0, NULL) == UAP_NULL);
+    DEMAND(uap_read_group_last_taken(subscriber, 0, NULL) == UAP_NULL);
 }
 
 // ---- indexes

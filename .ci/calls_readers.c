@@ -100,39 +100,98 @@ static void check_timeout(void) {
 
 // ---- what can't be read
 
-static bool is_fault(struct uap_handle *subscriber, uint64_t bad, uint32_t number, uint32_t got) {
-    struct uap_fault fault = {77, 77, 77, 77};
+enum { NOTHING = -1 };
+
+// A fault with what it got, with the place of its field and the type byte of its value, where it has them.
+static bool is_fault(struct uap_handle *subscriber, uint64_t bad, uint32_t number, uint32_t got, int field, int kind) {
+    struct uap_fault fault;
+    memset(&fault, 0x55, sizeof fault);
     return uap_reader_last_fault(subscriber, OPEN, 0, &fault) == UAP_OK && fault.bad == bad && fault.fault == number && fault.got == got &&
-           fault.of == 0;
+           fault.of == 0 && fault.field == (uint32_t)(field == NOTHING ? 0 : field) && fault.has_field == (field != NOTHING) &&
+           fault.kind == (uint32_t)(kind == NOTHING ? 0 : kind) && fault.has_kind == (kind != NOTHING);
 }
 
 static const struct {
     uint32_t fault, got;
+    int field, kind;
     const char *text;
 } faults[] = {
-    {UAP_FAULT_SHORT, 0, HEADER "09 00 00 01 00 07 07 00 00"},
-    {UAP_FAULT_ENCODING, 0, HEADER "0f 00 00 01 00 07 07 00 00 00"},
-    {UAP_FAULT_KIND, 0, HEADER "09 00 00 01 00 00 07 00 00 00"},
-    {UAP_FAULT_VALUE, 0, HEADER "09 00 00 01 00 13 00 00 00 80"},
-    {UAP_FAULT_INDEX, 3, HEADER "89 01 00 00 01 00 03 00 07 07 00 00 00"},
-    {UAP_FAULT_COUNT, 2, HEADER "09 00 00 02 00 07 07 00 00 00 07 08 00 00 00"},
-    {UAP_FAULT_NOT_VALID, 0, HEADER "08 00 00 01 00 07 07 00 00 00"},
-    {UAP_FAULT_EVENT, 0, HEADER "89 02 00 00 01 00 07 07 00 00 00"},
-    {UAP_FAULT_RESERVED, 0, HEADER "89 04 00 00 01 00 07 07 00 00 00"},
+    {UAP_FAULT_SHORT, 0, 0, UAP_UINT32, HEADER "09 00 00 01 00 07 07 00 00"},
+    // a message that ends before its value begins, and before its count
+    {UAP_FAULT_SHORT, 0, 0, NOTHING, HEADER "09 00 00 01 00"},
+    {UAP_FAULT_SHORT, 0, NOTHING, NOTHING, HEADER "09 00 00 01"},
+    {UAP_FAULT_ENCODING, 0, NOTHING, NOTHING, HEADER "0f 00 00 01 00 07 07 00 00 00"},
+    // null, and a StatusCode where a UInt32 is due: as some publishers send a Bad field
+    {UAP_FAULT_KIND, 0, 0, 0, HEADER "09 00 00 01 00 00 07 00 00 00"},
+    {UAP_FAULT_VALUE, 0, 0, UAP_STATUS_CODE, HEADER "09 00 00 01 00 13 00 00 00 80"},
+    // the same in a delta frame, behind a right value of the same field
+    {UAP_FAULT_VALUE, 0, 0, UAP_STATUS_CODE, HEADER "89 01 00 00 02 00 00 00 07 07 00 00 00 00 00 13 00 00 00 80"},
+    // a DataValue with a StatusCode as its value, one without a value, and one with a reserved bit
+    {UAP_FAULT_VALUE, 0, 0, UAP_STATUS_CODE, HEADER "0d 00 00 01 00 01 13 00 00 00 80"},
+    {UAP_FAULT_VALUE, 0, 0, NOTHING, HEADER "0d 00 00 01 00 02 00 00 00 80"},
+    {UAP_FAULT_KIND, 0, 0, NOTHING, HEADER "0d 00 00 01 00 41 07 07 00 00 00"},
+    // a greater minor version, whose second field isn't ours
+    {UAP_FAULT_KIND, 0, 1, 0x1b, HEADER "49 00 00 09 00 00 00 02 00 07 07 00 00 00 1b 00"},
+    {UAP_FAULT_INDEX, 3, NOTHING, NOTHING, HEADER "89 01 00 00 01 00 03 00 07 07 00 00 00"},
+    {UAP_FAULT_COUNT, 2, NOTHING, NOTHING, HEADER "09 00 00 02 00 07 07 00 00 00 07 08 00 00 00"},
+    {UAP_FAULT_NOT_VALID, 0, NOTHING, NOTHING, HEADER "08 00 00 01 00 07 07 00 00 00"},
+    {UAP_FAULT_EVENT, 0, NOTHING, NOTHING, HEADER "89 02 00 00 01 00 07 07 00 00 00"},
+    {UAP_FAULT_RESERVED, 0, NOTHING, NOTHING, HEADER "89 04 00 00 01 00 07 07 00 00 00"},
 };
+
+static bool is_row(struct uap_handle *subscriber, uint64_t bad, size_t i) {
+    return is_fault(subscriber, bad, faults[i].fault, faults[i].got, faults[i].field, faults[i].kind);
+}
 
 static void check_faults(void) {
     struct uap_handle subscriber = UAP_CLOSED_HANDLE;
     const size_t count = sizeof faults / sizeof *faults;
     open_subscriber(&subscriber);
-    DEMAND(is_fault(&subscriber, 0, UAP_FAULT_NONE, 0));
+    DEMAND(is_fault(&subscriber, 0, UAP_FAULT_NONE, 0, NOTHING, NOTHING));
     for (size_t i = 0; i < count; i++) {
         DEMAND(came(&subscriber, 10, faults[i].text) == UAP_OK);
-        if (!is_fault(&subscriber, i + 1, faults[i].fault, faults[i].got)) fprintf(stderr, "%s\n", uap_fault_name(faults[i].fault));
-        DEMAND(is_fault(&subscriber, i + 1, faults[i].fault, faults[i].got));
+        if (!is_row(&subscriber, i + 1, i)) fprintf(stderr, "%s\n", faults[i].text);
+        DEMAND(is_row(&subscriber, i + 1, i));
     }
     // one that can be read leaves it
-    DEMAND(came(&subscriber, 20, KEY("00", "07")) == UAP_OK && is_fault(&subscriber, count, faults[count - 1].fault, 0));
+    DEMAND(came(&subscriber, 20, KEY("00", "07")) == UAP_OK && is_row(&subscriber, count, count - 1));
+    DEMAND(uap_close(&subscriber) == UAP_OK);
+}
+
+// ---- what is received
+
+static bool has_received(struct uap_handle *subscriber, uint64_t lost, uint64_t stored, uint64_t seen) {
+    struct uap_received received;
+    memset(&received, 0x55, sizeof received);
+    return uap_reader_received(subscriber, OPEN, 0, &received) == UAP_OK && received.lost == lost && received.stored == stored &&
+           received.seen_ms == seen && received.has_seen == (seen != 0);
+}
+
+// A keep-alive, which carries the number of the next data frame.
+#define ALIVE(number) HEADER "89 03 " number " 00"
+
+static void check_received(void) {
+    struct uap_handle subscriber = UAP_CLOSED_HANDLE;
+    open_subscriber(&subscriber);
+    DEMAND(has_received(&subscriber, 0, 0, 0));
+    // nothing is missing before the first
+    DEMAND(came(&subscriber, 10, KEY("05", "07")) == UAP_OK && has_received(&subscriber, 0, 1, 10));
+    DEMAND(came(&subscriber, 20, DELTA("06", "08")) == UAP_OK && has_received(&subscriber, 0, 2, 20));
+    // 7 and 8 are missing; the delta frame is taken, and stored nowhere
+    DEMAND(came(&subscriber, 30, DELTA("09", "09")) == UAP_OK && has_received(&subscriber, 2, 2, 30));
+    // 8 comes late: it is passed over, and stays counted
+    DEMAND(came(&subscriber, 40, DELTA("08", "08")) == UAP_OK && has_received(&subscriber, 2, 2, 30));
+    // a keep-alive names 12 as the next: 10 and 11 are missing, and 12 isn't counted again
+    DEMAND(came(&subscriber, 50, ALIVE("0c")) == UAP_OK && has_received(&subscriber, 4, 2, 50));
+    DEMAND(came(&subscriber, 60, KEY("0c", "0a")) == UAP_OK && has_received(&subscriber, 4, 3, 60));
+    // one that tells nothing new is taken, and one that comes again isn't
+    DEMAND(came(&subscriber, 70, ALIVE("0d")) == UAP_OK && has_received(&subscriber, 4, 3, 70));
+    DEMAND(came(&subscriber, 80, KEY("0c", "0a")) == UAP_OK && has_received(&subscriber, 4, 3, 70));
+    // behind a cut nothing is missing
+    DEMAND(uap_subscriber_expire(&subscriber, 2000) == UAP_OK && came(&subscriber, 2001, KEY("20", "0a")) == UAP_OK);
+    DEMAND(has_received(&subscriber, 4, 4, 2001));
+    // one that can't be read isn't taken
+    DEMAND(came(&subscriber, 2010, KEY("21", "0a") " 01") == UAP_OK && has_received(&subscriber, 4, 4, 2001));
     DEMAND(uap_close(&subscriber) == UAP_OK);
 }
 
@@ -214,6 +273,7 @@ void check_readers(void) {
     check_alive();
     check_timeout();
     check_faults();
+    check_received();
     check_passed();
     check_refused();
     check_only();

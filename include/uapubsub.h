@@ -187,6 +187,22 @@ struct uap_fault {
     uint32_t fault;  /* why the last one couldn't: UAP_FAULT_.. */
     uint32_t got;    /* what it had, as its fault says; else 0 */
     uint32_t of;     /* of how many bytes, as its fault says; else 0 */
+    uint32_t field, has_field;  /* the field whose value has it: its place in a key frame, its index in a delta frame. What isn't there is 0 */
+    uint32_t kind, has_kind;    /* the type byte of its value: UAP_BOOLEAN .. UAP_STATUS_CODE, or another */
+};
+
+/* What a reader received, since the subscriber was opened. */
+struct uap_received {
+    uint64_t lost;      /* how many messages were missing by their numbers. One that comes late stays counted; a cut counts none */
+    uint64_t stored;    /* how often a row was stored */
+    uint64_t seen_ms;   /* the moment of the last message that it took */
+    uint32_t has_seen;  /* 1 where there was one, else 0 */
+};
+
+/* The last datagram that a read group accepted under a security header. */
+struct uap_last_taken {
+    uint32_t token;   /* its SecurityTokenId */
+    uint32_t number;  /* the number in its nonce */
 };
 
 /* How many messages a reader passed over, since the subscriber was opened. */
@@ -257,7 +273,9 @@ uint32_t uapubsub_reader_age(struct uap_handle *handle, uint32_t group, uint32_t
 uint32_t uapubsub_reader_is_fresh(struct uap_handle *handle, uint32_t group, uint32_t reader, uint64_t now_ms, uint64_t bound_ms);
 uint32_t uapubsub_reader_last_fault(struct uap_handle *handle, uint32_t group, uint32_t reader, struct uap_fault *fault);
 uint32_t uapubsub_reader_passed(struct uap_handle *handle, uint32_t group, uint32_t reader, struct uap_passed *passed);
+uint32_t uapubsub_reader_received(struct uap_handle *handle, uint32_t group, uint32_t reader, struct uap_received *received);
 uint32_t uapubsub_read_group_refused(struct uap_handle *handle, uint32_t group, struct uap_refused *refused);
+uint32_t uapubsub_read_group_last_taken(struct uap_handle *handle, uint32_t group, struct uap_last_taken *taken);
 uint32_t uapubsub_read_group_only(struct uap_handle *handle, uint32_t group, uint16_t number);
 uint32_t uapubsub_subscriber_due(struct uap_handle *handle, uint64_t now_ms, uint64_t *moment_ms);
 uint32_t uapubsub_set_word(struct uap_handle *handle, uint32_t set, uint32_t field, uint32_t kind, uint64_t word);
@@ -804,6 +822,19 @@ static inline uint32_t uap_reader_passed(struct uap_handle *handle, uint32_t gro
 static inline uint32_t uap_read_group_refused(struct uap_handle *handle, uint32_t group, struct uap_refused *refused) {
     if (handle == NULL || refused == NULL) return UAP_NULL;
     return uapubsub_read_group_refused(handle, group, refused);
+}
+
+/* What a reader received: how many messages it lost, how often it stored a row, and when it took the last message. */
+static inline uint32_t uap_reader_received(struct uap_handle *handle, uint32_t group, uint32_t reader, struct uap_received *received) {
+    if (handle == NULL || received == NULL) return UAP_NULL;
+    return uapubsub_reader_received(handle, group, reader, received);
+}
+
+/* The token and the number of the last datagram that a read group accepted under a security header. UAP_NONE: it accepted none, as an
+ * unsecured one does. */
+static inline uint32_t uap_read_group_last_taken(struct uap_handle *handle, uint32_t group, struct uap_last_taken *taken) {
+    if (handle == NULL || taken == NULL) return UAP_NULL;
+    return uapubsub_read_group_last_taken(handle, group, taken);
 }
 
 /* A read group takes datagrams of this NetworkMessageNumber alone, of any where it is 0, as at first. Others are UAP_NOT_OURS. It is for a

@@ -15,7 +15,8 @@ KEY = dict(signing=bytes(range(32)), encrypting=bytes(range(16)), nonce=b"3333")
 TYPES = {"struct uap_handle *": "handle", "const uint8_t *": "bytes", "uint8_t *": "room", "size_t": "size", "size_t *": "size*", "uint16_t *": "u16*",
          "uint32_t": "u32", "uint32_t *": "u32*", "uint64_t": "u64", "uint64_t *": "u64*", "const struct uap_key_set *": "sets", "struct uap_taken *": "taken*",
          "const struct uap_guid *": "bytes", "struct uap_guid *": "room",
-         "struct uap_fault *": "fault*", "struct uap_passed *": "passed*", "struct uap_refused *": "refused*", "uint16_t": "u16"}
+         "struct uap_fault *": "fault*", "struct uap_passed *": "passed*", "struct uap_received *": "received*", "struct uap_last_taken *": "last*",
+         "struct uap_refused *": "refused*", "uint16_t": "u16"}
 
 
 def text(secured=False):
@@ -96,8 +97,8 @@ class OfTheHeader(unittest.TestCase):
         return re.sub(r"(?<=[a-z])(?=[A-Z])", "_", kind).upper()
 
     def test_structs(self):
-        sizes = {"handle": (_library.Handle, 16), "key_set": (u.KeySet, 80), "taken": (u.Taken, 12), "fault": (u.LastFault, 24), "passed": (u.Passed, 32),
-                 "refused": (u.Refusals, 56)}
+        sizes = {"handle": (_library.Handle, 16), "key_set": (u.KeySet, 80), "taken": (u.Taken, 12), "fault": (u.LastFault, 40), "passed": (u.Passed, 32),
+                 "received": (u.Received, 32), "last_taken": (u.LastTaken, 8), "refused": (u.Refusals, 56)}
         for name, (ours, size) in sizes.items():
             block = re.search(rf"^struct uap_{name} {{\n(.*?)^}};", self.header, re.M | re.S)[1]
             fields = re.findall(r"(\w+)(?:\[\d+\])?[;,]", re.sub(r"/\*.*?\*/", "", block, flags=re.S))
@@ -217,6 +218,9 @@ class Sides(OverSides):
         self.assertEqual(subscriber.passed("readers", "reader").older, 1)
         fault = subscriber.last_fault("readers", "reader")
         self.assertEqual((fault.bad, u.Fault(fault.fault)), (1, u.Fault.SHORT))
+        received = subscriber.received("readers", "reader")
+        self.assertEqual((received.lost, received.stored, received.seen_ms, received.has_seen), (0, 1, 100, 1))
+        self.assertIsNone(subscriber.last_taken("readers"))
         refusals = subscriber.refusals("readers")
         self.assertEqual((refusals.count, u.Status(refusals.status)), (1, u.Status.VERSION))
         subscriber.only("readers", 7)

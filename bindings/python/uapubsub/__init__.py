@@ -16,7 +16,7 @@ import ctypes, struct, threading, tomllib, uuid
 from ctypes import byref, c_size_t, c_uint16, c_uint32, c_uint64
 from typing import Any, Iterator, NamedTuple
 
-from ._library import Handle, KeySet, LastFault, Passed, Refusals, Taken, library
+from ._library import Handle, KeySet, LastFault, LastTaken, Passed, Received, Refusals, Taken, library
 from .errors import *
 from .errors import demand
 
@@ -298,6 +298,17 @@ class Subscriber(_Side):
         passed = Passed()
         self._call("reader_passed", *self._places(group, reader), byref(passed))
         return passed
+
+    def received(self, group: str | int, reader: str | int) -> Received:
+        """What a reader received: how many messages it lost, how often it stored a row, and when it took the last message."""
+        received = Received()
+        self._call("reader_received", *self._places(group, reader), byref(received))
+        return received
+
+    def last_taken(self, group: str | int) -> LastTaken | None:
+        """The token and the number of the last datagram that a read group accepted under a security header."""
+        taken = LastTaken()
+        return None if self._call("read_group_last_taken", self._table("readgroup", group), byref(taken)) else taken
 
     def refusals(self, group: str | int) -> Refusals:
         """What a read group refused."""

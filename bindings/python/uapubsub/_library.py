@@ -29,9 +29,21 @@ class Taken(Structure):
 
 
 class LastFault(Structure):
-    """How many parts of a reader couldn't be read, and why the last one couldn't: `fault` is a number of Fault."""
+    """How many parts of a reader couldn't be read, and why the last one couldn't: `fault` is a number of Fault. `field` is whose value has it, `kind` its type byte."""
 
-    _fields_ = [("bad", c_uint64), ("fault", c_uint32), ("got", c_uint32), ("of", c_uint32)]
+    _fields_ = [("bad", c_uint64), *((name, c_uint32) for name in ("fault", "got", "of", "field", "has_field", "kind", "has_kind"))]
+
+
+class Received(Structure):
+    """How many messages a reader lost, how often it stored a row, and when it took the last message."""
+
+    _fields_ = [("lost", c_uint64), ("stored", c_uint64), ("seen_ms", c_uint64), ("has_seen", c_uint32)]
+
+
+class LastTaken(Structure):
+    """The token and the number of the last datagram that a read group accepted under a security header."""
+
+    _fields_ = [("token", c_uint32), ("number", c_uint32)]
 
 
 class Passed(Structure):
@@ -51,6 +63,7 @@ class Refusals(Structure):
 TYPES = {"handle": POINTER(Handle), "bytes": c_char_p, "room": c_void_p, "size": c_size_t,
          "size*": POINTER(c_size_t), "u16*": POINTER(c_uint16), "u32": c_uint32, "u32*": POINTER(c_uint32), "u64": c_uint64, "u64*": POINTER(c_uint64),
          "sets": POINTER(KeySet), "taken*": POINTER(Taken), "fault*": POINTER(LastFault), "passed*": POINTER(Passed),
+         "received*": POINTER(Received), "last*": POINTER(LastTaken),
          "refused*": POINTER(Refusals), "u16": c_uint16}
 CALLS = """
 version
@@ -84,7 +97,9 @@ reader_age             handle u32 u32 u64 u64*
 reader_is_fresh        handle u32 u32 u64 u64
 reader_last_fault      handle u32 u32 fault*
 reader_passed          handle u32 u32 passed*
+reader_received        handle u32 u32 received*
 read_group_refused     handle u32 refused*
+read_group_last_taken  handle u32 last*
 read_group_only        handle u32 u16
 subscriber_due         handle u64 u64*
 set_word               handle u32 u32 u32 u64

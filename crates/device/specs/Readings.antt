@@ -14,6 +14,7 @@ use Rattle.message_guard.specs.declared.keys.TokenKeys.{TokenKeys}
 use Rattle.ps_config.specs.declared.parts.Config.{Config}
 use Rattle.reader_group.specs.declared.group.ReaderGroup.{ReaderGroup}
 use Rattle.reader_group.specs.declared.notice.Notice.{Notice}
+use Rattle.reader_group.specs.declared.receipt.TokenNumber.{TokenNumber}
 use Rattle.reader_group.specs.declared.refused.Refused.{Refused}
 use Rattle.reader_group.specs.Groups as reads
 use Rattle.reader_group.specs.Members.{seat_at}
@@ -125,6 +126,11 @@ IsStale group reader now bound subscriber =
 pub record HasRefused (group : ℕ) (subscriber : Subscriber) (refused : Refused) : Type 0 where
   pub within : group < length subscriber.groups.items
   pub is : HoldsAt (λ listening. refused ≡ reads.refused_of listening.group) subscriber.groups.items group
+
+-- the token and the number of the last datagram that the read group with this index accepted under a security header, if there was one
+pub record HasLastTaken (group : ℕ) (subscriber : Subscriber) (pair : Option TokenNumber) : Type 0 where
+  pub within : group < length subscriber.groups.items
+  pub is : HoldsAt (λ listening. reads.IsLastTaken listening.group pair) subscriber.groups.items group
 
 -- this is noted of the reader with this index in the read group with this index
 pub record IsNoticeFor (group reader : ℕ) (subscriber : Subscriber) (notice : Notice) : Type 0 where

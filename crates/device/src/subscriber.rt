@@ -10,7 +10,7 @@ ghost use Rattle.ps_config.specs.Sound.{IsSound};
 ghost use Rattle.writer_group.specs.Standing.{IsGood};
 ghost use Rattle.row_words.specs.Words.{scalar_in};
 ghost use Rattle.device.specs.Due.{AreInTime, HasTimeout, TellsFirst};
-ghost use Rattle.device.specs.Readings.{HasAge, HasFieldStatus, HasFieldValue, HasKeysRenewed, HasNoMisfit, HasNumber, HasReaderSwitched, HasRefused, HaveExpired, IsConfirmedFor, IsFreshFor, IsNoReader, IsNoticeFor, IsOfKind, IsOfOtherKind, IsReaderAt, IsStale, IsUnconfirmed, IsUntold, IsUntoldAt, Keeps, ReaderKeeps, meta_for};
+ghost use Rattle.device.specs.Readings.{HasAge, HasFieldStatus, HasFieldValue, HasKeysRenewed, HasLastTaken, HasNoMisfit, HasNumber, HasReaderSwitched, HasRefused, HaveExpired, IsConfirmedFor, IsFreshFor, IsNoReader, IsNoticeFor, IsOfKind, IsOfOtherKind, IsReaderAt, IsStale, IsUnconfirmed, IsUntold, IsUntoldAt, Keeps, ReaderKeeps, meta_for};
 ghost use Rattle.device.specs.Sides.{AreOpeningListenings, FitsReadGroup, HasListened, IsListening, IsSubscriber, ReadsLongKeys, ReadsNoKeys};
 
 use crate::asked::NoValue;
@@ -22,7 +22,7 @@ use dataset_meta::Meta;
 use dataset_reader::Reader;
 use group_keys::Ring;
 use ps_config::{Config, ConfigEnd, read_config};
-use reader_group::{Notice, Refusal, Refused, Taken};
+use reader_group::{Notice, Refusal, Refused, Taken, TokenNumber};
 use std::alloc::Global;
 use ua_values::{Kind, Value};
 
@@ -194,6 +194,19 @@ impl Subscriber {
             return None;
         }
         Some(self.groups[index].group.refused())
+    }
+
+    /// The token and the number of the last datagram that the read group with this index accepted under a security header
+    /// (`ReaderGroup::last_taken`): none where none was. None where there is no such read group.
+    pub fn last_taken(&self, group: u8) -> Option<Option<TokenNumber>>
+        ensures taken { IfSome result (HasLastTaken group self.now) }
+        ensures none { IfNone result (length self.now.groups.items ≤ group) }
+    {
+        let index = usize::from(group);
+        if index >= self.groups.len() {
+            return None;
+        }
+        Some(self.groups[index].group.last_taken())
     }
 
     /// What is noted of the parts for a reader (`ReaderGroup::notice`).

@@ -9,6 +9,7 @@ pub mod Lines
 pub mod Listing
 pub mod Nexts
 pub mod Noticing
+pub mod Receiving
 pub mod Numbers
 pub mod Opening
 pub mod Owning

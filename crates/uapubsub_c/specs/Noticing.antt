@@ -6,6 +6,7 @@ use Rattle.dataset_reader.specs.declared.passed.Passed.{Passed}
 use Rattle.dataset_reader.specs.declared.reader.Reader.{Reader}
 use Rattle.dataset_reader.specs.Reader.{passed_of}
 use Rattle.frame_codec.specs.declared.fault.FrameFault.TheVariants as frames
+use Rattle.frame_codec.specs.declared.faulty.FieldFault.{FieldFault}
 use Rattle.message_guard.specs.declared.open_fault.OpenFault.TheVariants as guards
 use Rattle.reader_group.specs.declared.notice.Notice.{Notice}
 use Rattle.reader_group.specs.declared.notice.PartFault.{PartFault}
@@ -44,13 +45,35 @@ fault_of (BadRange offset total) = total
 fault_of (Differs first now) = first
 fault_of other = 0
 
-abbrev pub fault_seen : ℕ → Option PartFault → FaultWords
-fault_seen bad None = record { bad = bad; fault = 0; got = 0; of = 0 }
-fault_seen bad (Some fault) = record { bad = bad; fault = fault_number fault; got = fault_got fault; of = fault_of fault }
+-- the same, and 0 where there is no fault
+abbrev pub number_if : Option PartFault → ℕ
+number_if None = 0
+number_if (Some fault) = fault_number fault
 
--- how many parts couldn't be read, and why the last one couldn't
+abbrev pub got_if : Option PartFault → ℕ
+got_if None = 0
+got_if (Some fault) = fault_got fault
+
+abbrev pub of_if : Option PartFault → ℕ
+of_if None = 0
+of_if (Some fault) = fault_of fault
+
+-- the field that is at fault, or none
+abbrev pub field_or_none : Option FieldFault → FieldFault
+field_or_none field = unwrap_or field (record { index = 0; type_byte = None })
+
+-- how many parts couldn't be read, and why the last one couldn't, at which field
 abbrev pub fault_words : Notice → FaultWords
-fault_words notice = fault_seen notice.bad notice.fault
+fault_words notice = record {
+  bad = notice.bad;
+  fault = number_if notice.fault;
+  got = got_if notice.fault;
+  of = of_if notice.fault;
+  field = (field_or_none notice.field).index;
+  has_field = truth_number (is_some notice.field);
+  kind = unwrap_or (field_or_none notice.field).type_byte 0;
+  has_kind = truth_number (is_some (field_or_none notice.field).type_byte);
+}
 
 -- what is noted of the reader
 pub record HasFaults (group reader : ℕ) (subscriber : Subscriber) (words : FaultWords) : Type 0 where

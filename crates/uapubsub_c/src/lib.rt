@@ -19,6 +19,7 @@ mod loose;
 mod noticing;
 mod owning;
 mod publishing;
+mod receiving;
 mod refusals;
 mod setting;
 mod slot;
@@ -49,6 +50,9 @@ pub use owning::{
 pub use publishing::{
     uapubsub_publisher_next, uapubsub_publisher_open, uapubsub_publisher_renew,
     uapubsub_publisher_resume, uapubsub_publisher_resume_with, uapubsub_publisher_standing,
+};
+pub use receiving::{
+    LastTakenWords, ReceivedWords, uapubsub_read_group_last_taken, uapubsub_reader_received,
 };
 pub use setting::{
     uapubsub_set_bytes, uapubsub_set_field_status, uapubsub_set_guid, uapubsub_set_text,

@@ -3,7 +3,7 @@ ghost use Rattle.std.specs.Prelude.{◌≡◌};
 ghost use Rattle.device.specs.Sides.{IsSubscriber};
 ghost use Rattle.uapubsub_c.specs.Answers.{Asks, Calls, OfSubscriber, Stays};
 ghost use Rattle.uapubsub_c.specs.Handles.{IsReady};
-ghost use Rattle.uapubsub_c.specs.Noticing.{TakesOnly, TellsFault, TellsPassed, TellsRefused, fault_got, fault_of, fault_words, last_words, passed_words, refused_words, sender_in, token_in, type_in, word_in};
+ghost use Rattle.uapubsub_c.specs.Noticing.{TakesOnly, TellsFault, TellsPassed, TellsRefused, fault_got, fault_of, fault_words, got_if, last_words, number_if, of_if, passed_words, refused_words, sender_in, token_in, type_in, word_in};
 ghost use Rattle.uapubsub_c.specs.Numbers.{fault_number};
 
 use crate::handle::Handle;
@@ -13,7 +13,7 @@ use crate::status::{Status, number_of, tell};
 use chunker::ChunkFault;
 use dataset_reader::Passed;
 use device::Subscriber;
-use frame_codec::FrameFault;
+use frame_codec::{FieldFault, FrameFault};
 use message_guard::OpenFault;
 use ps_config::Publisher;
 use reader_group::{LastRefusal, Notice, PartFault, Refusal, Refused, Sender};
@@ -31,6 +31,12 @@ pub struct FaultWords {
     pub got: u32,
     /// Of how many bytes, where that is told; else 0.
     pub of: u32,
+    /// The field whose value has the fault, by its index, and 1 where there is one; else both are 0. So it is with the pair below.
+    pub field: u32,
+    pub has_field: u32,
+    /// The type byte of its value.
+    pub kind: u32,
+    pub has_kind: u32,
 }
 
 /// How many messages a reader passed over since the subscriber was opened, as C sees it.
@@ -109,19 +115,49 @@ fn fault_in(subscriber: &Subscriber, group: u32, reader: u32) -> Result<FaultWor
 fn fault_words(notice: &Notice) -> FaultWords
     ensures { result ≡ fault_words notice.now }
 {
-    match &notice.fault {
-        None => FaultWords {
-            bad: notice.bad,
-            fault: 0,
-            got: 0,
-            of: 0,
-        },
-        Some(fault) => FaultWords {
-            bad: notice.bad,
-            fault: fault_number(fault),
-            got: fault_got(fault),
-            of: fault_of(fault),
-        },
+    let field = notice.field.unwrap_or(NO_FIELD);
+    FaultWords {
+        bad: notice.bad,
+        fault: number_if(&notice.fault),
+        got: got_if(&notice.fault),
+        of: of_if(&notice.fault),
+        field: u32::from(field.index),
+        has_field: u32::from(notice.field.is_some()),
+        kind: u32::from(field.type_byte.unwrap_or(0)),
+        has_kind: u32::from(field.type_byte.is_some()),
+    }
+}
+
+/// What is told where no field is at fault.
+const NO_FIELD: FieldFault = FieldFault {
+    index: 0,
+    type_byte: None,
+};
+
+fn number_if(fault: &Option<PartFault>) -> u32
+    ensures { result ≡ number_if fault.now }
+{
+    match fault {
+        None => 0,
+        Some(fault) => fault_number(fault),
+    }
+}
+
+fn got_if(fault: &Option<PartFault>) -> u32
+    ensures { result ≡ got_if fault.now }
+{
+    match fault {
+        None => 0,
+        Some(fault) => fault_got(fault),
+    }
+}
+
+fn of_if(fault: &Option<PartFault>) -> u32
+    ensures { result ≡ of_if fault.now }
+{
+    match fault {
+        None => 0,
+        Some(fault) => fault_of(fault),
     }
 }
 
