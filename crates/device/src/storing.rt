@@ -16,6 +16,7 @@ use stored_state::StoredState;
 
 /// How many key groups a configuration has at most, and how many writers.
 const MOST_KEYGROUPS: usize = 4;
+
 const MOST_WRITERS: usize = 16;
 
 /// The first number of a writer in a state: those of key groups stand in front of it.
