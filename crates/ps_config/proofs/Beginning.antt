@@ -12,7 +12,7 @@ use Rattle.ps_config.specs.declared.parts.ReadGroupPart.{ReadGroupPart}
 use Rattle.ps_config.specs.declared.parts.ReaderPart.{ReaderPart}
 use Rattle.ps_config.specs.declared.parts.WriterPart.{WriterPart}
 use Rattle.ps_config.specs.Beginning.{changed_at, config_beginning, group_beginning, writer_beginning}
-use Rattle.ps_config.specs.FixedSound.{IsFixedGroup, IsFixedSound, IsFixedWriter, writer_slot}
+use Rattle.ps_config.specs.FixedSound.{IsFixedGroup, IsFixedReadGroup, IsFixedSound, IsFixedWriter, writer_slot}
 use Rattle.ps_config.specs.Headers.{header_of, ids_of, signature_len}
 use Rattle.ps_config.specs.Rooms.{chunk_room, datagrams_of, header_settings, is_fixed, lacks_room}
 use Rattle.ps_config.specs.Sound.{AreDistinct, IsFew, IsGroup, IsKeyed, IsReadGroup, IsReader, IsSound, IsWriter, group_names, read_group_names, writer_ids, writers}
