@@ -4,27 +4,33 @@
 #![tactic(auto)]
 
 mod answered;
+mod case_line;
 mod config;
 mod escapes;
 mod fault;
 mod field;
 mod line;
+mod named;
 mod numbers;
 mod parsed;
 mod runner;
 mod shown;
 mod tally;
+mod told;
 mod why;
 
 pub use answered::{Answer, AnsweredLine, is_note, refused, said, told, told_bytes, yes_or_no};
+pub use case_line::CaseLine;
 pub use config::config_of;
 pub use escapes::unescaped;
 pub use fault::LineFault;
 pub use field::set_field;
 pub use line::{Line, bytes_of};
+pub use named::named;
 pub use numbers::Numbers;
 pub use parsed::{kind_of, number, parted, string_of, value_in, value_of};
 pub use runner::{Answers, answer_lines};
 pub use shown::{Digits, Hex, Shown};
 pub use tally::Tally;
+pub use told::{Told, two, written};
 pub use why::why_of;

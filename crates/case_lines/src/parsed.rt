@@ -1,31 +1,33 @@
 //! Kinds and values from words.
 use crate::fault::LineFault;
 use crate::line::Line;
+use crate::named::named;
 use std::alloc::Global;
 use std::str::FromStr;
 use ua_values::{Blob, Kind, Text, Value};
 
+static KINDS: [(&str, Kind); 16] = [
+    ("Boolean", Kind::Boolean),
+    ("SByte", Kind::SByte),
+    ("Byte", Kind::Byte),
+    ("Int16", Kind::Int16),
+    ("UInt16", Kind::UInt16),
+    ("Int32", Kind::Int32),
+    ("UInt32", Kind::UInt32),
+    ("Int64", Kind::Int64),
+    ("UInt64", Kind::UInt64),
+    ("Float", Kind::Float),
+    ("Double", Kind::Double),
+    ("String", Kind::String),
+    ("DateTime", Kind::DateTime),
+    ("Guid", Kind::Guid),
+    ("ByteString", Kind::ByteString),
+    ("StatusCode", Kind::StatusCode),
+];
+
 /// The kind of this name.
 pub fn kind_of(word: &str) -> Result<Kind, LineFault> {
-    Ok(match word {
-        "Boolean" => Kind::Boolean,
-        "SByte" => Kind::SByte,
-        "Byte" => Kind::Byte,
-        "Int16" => Kind::Int16,
-        "UInt16" => Kind::UInt16,
-        "Int32" => Kind::Int32,
-        "UInt32" => Kind::UInt32,
-        "Int64" => Kind::Int64,
-        "UInt64" => Kind::UInt64,
-        "Float" => Kind::Float,
-        "Double" => Kind::Double,
-        "String" => Kind::String,
-        "DateTime" => Kind::DateTime,
-        "Guid" => Kind::Guid,
-        "ByteString" => Kind::ByteString,
-        "StatusCode" => Kind::StatusCode,
-        _ => return Err(LineFault::Missing),
-    })
+    named(&KINDS, word).ok_or(LineFault::Missing)
 }
 
 /// A value: its kind, and then its value.

@@ -1,14 +1,15 @@
 //! The calls by their names, and what is kept from line to line.
-use crate::case_line::CaseLine;
+use crate::calls::{CALLS, Call, MachineCall, SetCall, WireCall};
 use crate::guards::GuardRows;
 use crate::joiners::{self, JoinerRows};
 use crate::metas::data_set;
 use crate::random::{chunk_line, line_of, name_of};
-use crate::row_calls::RowCalls;
+use crate::readers::ReaderRows;
 use crate::timers::TimerRows;
 use crate::windows::WindowRows;
+use crate::writers::WriterRows;
 use crate::{frames, headers, metas, numbers, payloads, security, slots, values};
-use case_lines::{Answer, Answers, Line, LineFault, Numbers, Tally, told};
+use case_lines::{Answer, Answers, CaseLine, LineFault, Numbers, Tally, named, told};
 use std::alloc::Global;
 
 /// What is kept from line to line: the machines that the calls speak of.
@@ -19,18 +20,18 @@ pub struct Bench {
     joiner: JoinerRows,
     window: WindowRows,
     guards: GuardRows,
-    rows: RowCalls,
+    writers: WriterRows,
+    readers: ReaderRows,
 }
 
 impl<R> Answers<R> for Bench {
-    fn answer(&mut self, _rt: &R, line: &mut Line<'_>) -> Answer {
-        let mut line = CaseLine::new(line.rest());
-        let answer = match line.word() {
-            "random" => self.random(&mut line),
-            "random_chunks" => self.random_chunks(&mut line),
-            call => self.call(call, &mut line),
-        };
-        line.checked(answer)
+    fn answer(&mut self, _rt: &R, line: &mut CaseLine<'_>) -> Answer {
+        match named(&CALLS, line.word()) {
+            Some(Call::Random) => self.random(line),
+            Some(Call::RandomChunks) => self.random_chunks(line),
+            Some(call) => self.call(call, line),
+            None => Err(LineFault::Call),
+        }
     }
 }
 
@@ -42,7 +43,8 @@ impl Bench {
             joiner: JoinerRows::new(),
             window: WindowRows::new(),
             guards: GuardRows::new(),
-            rows: RowCalls::new(),
+            writers: WriterRows::new(),
+            readers: ReaderRows::new(),
         }
     }
 
@@ -77,7 +79,9 @@ impl Bench {
     /// Counts the answer to one line.
     fn tell(&mut self, tally: &mut Tally, made: &str) -> Result<(), LineFault> {
         let mut line = CaseLine::new(made);
-        let call = line.word();
+        let Some(call) = named(&CALLS, line.word()) else {
+            return Err(LineFault::Call);
+        };
         let answer = self.call(call, &mut line);
         if let Some(answer) = line.checked(answer)? {
             tally.add(self.alloc, name_of(answer.as_str()), answer.as_str())?;
@@ -85,95 +89,85 @@ impl Bench {
         Ok(())
     }
 
-    fn call(&mut self, call: &str, line: &mut CaseLine) -> Answer {
+    /// What the call answers; lines by chance have no lines by chance in them.
+    fn call(&mut self, call: Call, line: &mut CaseLine) -> Answer {
         let alloc = self.alloc;
         match call {
-            "read_variant" => values::read_variant(alloc, line),
-            "read_data_value" => values::read_data_value(alloc, line),
-            "kinds" => values::kinds(alloc),
-            "write_variant" => values::write_variant(alloc, line),
-            "write_data_value" => values::write_data_value(alloc, line),
-            "name" => metas::name(alloc, line),
-            "meta" => metas::meta(alloc, line),
-            "text" => values::text(alloc, line),
-            "blob" => values::blob(alloc, line),
-            "fits" => values::fits(alloc, line),
-            "read_front" => frames::read_front(alloc, line),
-            "read_header" => headers::read_header(alloc, line),
-            "spell_header" => headers::spell_header(alloc, line),
-            "plan" => payloads::plan(alloc, line),
-            "split" => payloads::split(alloc, line),
-            "write_sizes" => payloads::write_sizes(alloc, line),
-            "read_frame"
-            | "rewrite_frame"
-            | "raw_size"
-            | "read_raw"
-            | "read_raw_behind"
-            | "write_raw" => { of_data_set(alloc, call, line) }
-            "slots" => slots::slots(alloc, line),
-            "newer" => numbers::is_newer(alloc, line),
-            "block128" => security::block128(alloc, line),
-            "block256" => security::block256(alloc, line),
-            "stream128" => security::stream128(alloc, line),
-            "stream256" => security::stream256(alloc, line),
-            "hmac" => security::hmac(alloc, line),
-            "ring" => security::ring(alloc, line),
-            "read_chunk" => joiners::read_chunk(alloc, line),
-            "write_chunk" => joiners::write_chunk(alloc, line),
-            call => self.kept(call, line),
+            Call::Random | Call::RandomChunks => Err(LineFault::Call),
+            Call::Wire(call) => of_wire(alloc, call, line),
+            Call::Set(call) => of_data_set(alloc, call, line),
+            Call::Machine(call) => self.machine(call, line),
+            Call::Keys(call) => self.guards.keyed(alloc, call, line),
+            Call::Sender(call) => self.guards.sent(alloc, call, line),
+            Call::Guard(call) => self.guards.guarded(alloc, call, line),
+            Call::Writer(call) => self.writers.given(alloc, call, line),
+            Call::Served(call) => self.writers.served(alloc, call, line),
+            Call::Heard(call) => self.readers.heard(alloc, call, line),
+            Call::Reader => self.readers.reader(alloc, line),
         }
     }
 
-    /// The calls of what is kept from line to line.
-    fn kept(&mut self, call: &str, line: &mut CaseLine) -> Answer {
+    /// The calls of the machines that are kept from line to line.
+    fn machine(&mut self, call: MachineCall, line: &mut CaseLine) -> Answer {
         let alloc = self.alloc;
         match call {
-            "joiner" => self.joiner.anew(),
-            "joiner_clear" => self.joiner.clear(),
-            "chunk" => self.joiner.chunk(alloc, line),
-            "joined_is" => self.joiner.is(alloc, line),
-            "joined" => self.joiner.joined(alloc),
-            "window" => self.window.anew(),
-            "number_seen" => self.window.test(alloc, line),
-            "number_taken" => self.window.take(alloc, line),
-            "timer" => self.timer.limit(line),
-            "seen" => self.timer.seen(line),
-            "clear" => self.timer.clear(),
-            "due" => self.timer.due(alloc, line),
-            call => self.guarded(call, line),
-        }
-    }
-
-    /// The calls of senders and guards.
-    fn guarded(&mut self, call: &str, line: &mut CaseLine) -> Answer {
-        let alloc = self.alloc;
-        match call {
-            "keysets" => self.guards.keysets(),
-            "keyset" => self.guards.keyset(alloc, line),
-            "sender" => self.guards.sender(line),
-            "sender_turn" => self.guards.turn(alloc, line),
-            "spent" => self.guards.spent(alloc),
-            "front" => self.guards.front(alloc, line),
-            "may_protect" => self.guards.may_protect(alloc, line),
-            "protect" => self.guards.protect(alloc, line),
-            "guard" => self.guards.guard(line),
-            "test" => self.guards.test(alloc, line),
-            "open" => self.guards.open(alloc, line),
-            call => self.rows.answer(alloc, call, line),
+            MachineCall::Joiner => self.joiner.anew(),
+            MachineCall::JoinerClear => self.joiner.clear(),
+            MachineCall::Chunk => self.joiner.chunk(alloc, line),
+            MachineCall::JoinedIs => self.joiner.is(alloc, line),
+            MachineCall::Joined => self.joiner.joined(alloc),
+            MachineCall::Window => self.window.anew(),
+            MachineCall::NumberSeen => self.window.test(alloc, line),
+            MachineCall::NumberTaken => self.window.take(alloc, line),
+            MachineCall::Timer => self.timer.limit(line),
+            MachineCall::Seen => self.timer.seen(line),
+            MachineCall::Clear => self.timer.clear(),
+            MachineCall::Due => self.timer.due(alloc, line),
         }
     }
 }
 
+/// What a call answers of which nothing is kept.
+fn of_wire(alloc: Global, call: WireCall, line: &mut CaseLine) -> Answer {
+    match call {
+        WireCall::ReadVariant => values::read_variant(alloc, line),
+        WireCall::ReadDataValue => values::read_data_value(alloc, line),
+        WireCall::Kinds => values::kinds(alloc),
+        WireCall::WriteVariant => values::write_variant(alloc, line),
+        WireCall::WriteDataValue => values::write_data_value(alloc, line),
+        WireCall::Name => metas::name(alloc, line),
+        WireCall::Meta => metas::meta(alloc, line),
+        WireCall::Text => values::text(alloc, line),
+        WireCall::Blob => values::blob(alloc, line),
+        WireCall::Fits => values::fits(alloc, line),
+        WireCall::ReadFront => frames::read_front(alloc, line),
+        WireCall::ReadHeader => headers::read_header(alloc, line),
+        WireCall::SpellHeader => headers::spell_header(alloc, line),
+        WireCall::Plan => payloads::plan(alloc, line),
+        WireCall::Split => payloads::split(alloc, line),
+        WireCall::WriteSizes => payloads::write_sizes(alloc, line),
+        WireCall::Slots => slots::slots(alloc, line),
+        WireCall::Newer => numbers::is_newer(alloc, line),
+        WireCall::Block128 => security::block128(alloc, line),
+        WireCall::Block256 => security::block256(alloc, line),
+        WireCall::Stream128 => security::stream128(alloc, line),
+        WireCall::Stream256 => security::stream256(alloc, line),
+        WireCall::Hmac => security::hmac(alloc, line),
+        WireCall::Ring => security::ring(alloc, line),
+        WireCall::ReadChunk => joiners::read_chunk(alloc, line),
+        WireCall::WriteChunk => joiners::write_chunk(alloc, line),
+    }
+}
+
 /// `CALL META ..`: what a call tells of a data set
-fn of_data_set(alloc: Global, call: &str, line: &mut CaseLine) -> Answer {
+fn of_data_set(alloc: Global, call: SetCall, line: &mut CaseLine) -> Answer {
     let meta = data_set(alloc, line.word())?;
     match call {
-        "read_frame" => frames::read_frame(alloc, &meta, line),
-        "rewrite_frame" => frames::rewrite_frame(alloc, &meta, line),
-        "raw_size" => slots::raw_size(alloc, &meta),
-        "read_raw" => slots::read_raw(alloc, &meta, line),
-        "read_raw_behind" => slots::read_raw_behind(alloc, &meta, line),
-        "write_raw" => slots::write_raw(alloc, &meta, line),
-        _ => Err(LineFault::Call),
+        SetCall::ReadFrame => frames::read_frame(alloc, &meta, line),
+        SetCall::RewriteFrame => frames::rewrite_frame(alloc, &meta, line),
+        SetCall::RawSize => slots::raw_size(alloc, &meta),
+        SetCall::ReadRaw => slots::read_raw(alloc, &meta, line),
+        SetCall::ReadRawBehind => slots::read_raw_behind(alloc, &meta, line),
+        SetCall::WriteRaw => slots::write_raw(alloc, &meta, line),
     }
 }

@@ -44,14 +44,18 @@ impl Case {
         }
     }
 
-    pub fn set_all(&mut self, puts: &[Put]) -> Result<(), LineFault>
+    /// Gives the fields from this one on these numbers.
+    pub fn set_from(&mut self, index: u8, numbers: &[u32]) -> Result<(), LineFault>
         ensures { self.new.meta ≡ self.old.meta }
     {
-        match puts {
+        match numbers {
             [] => Ok(()),
             [first, rest @ ..] => {
-                self.set(first)?;
-                self.set_all(rest)
+                self.set(&Put {
+                    index,
+                    value: Value::UInt32(*first),
+                })?;
+                self.set_from(index.saturating_add(1), rest)
             }
         }
     }

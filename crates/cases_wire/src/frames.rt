@@ -3,9 +3,7 @@ ghost use Rattle.std.specs.Prelude.{◌<◌, length};
 ghost use Rattle.row_words.specs.Belonging.{Belongs};
 ghost use Rattle.frame_codec.specs.Words.{IsFrameOf};
 
-use crate::case_line::CaseLine;
-use crate::told::{Told, written};
-use case_lines::{Answer, LineFault, Shown, refused};
+use case_lines::{Answer, CaseLine, LineFault, Shown, Told, refused, written};
 use dataset_meta::Meta;
 use frame_codec::{
     Frame, FrameKind, read_frame as read_one, read_front as read_first, write_frame,

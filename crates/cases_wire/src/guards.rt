@@ -3,11 +3,10 @@ ghost use Rattle.std.specs.Prelude.{◌≤◌, IsTrue, IfOk, length};
 ghost use Rattle.message_guard.specs.Guards.{IsPassOf};
 ghost use Rattle.message_guard.specs.Modes.{is_secured};
 
-use crate::case_line::CaseLine;
+use crate::calls::{GuardCall, KeysCall, SenderCall};
 use crate::header_parts::Security;
-use crate::told::{Told, two};
 use arrayvec::ArrayVec;
-use case_lines::{Answer, Digits, LineFault, refused, told, yes_or_no};
+use case_lines::{Answer, CaseLine, Digits, LineFault, Told, refused, told, two, yes_or_no};
 use group_keys::{KeySet, Ring};
 use message_guard::{Guard, Mode, OpenFault, Pass1, Sender};
 use std::alloc::Global;
@@ -29,14 +28,49 @@ impl GuardRows {
         }
     }
 
+    /// The calls of key sets, and of what is made of them.
+    pub fn keyed(&mut self, alloc: Global, call: KeysCall, line: &mut CaseLine) -> Answer {
+        match call {
+            KeysCall::Keysets => self.keysets(),
+            KeysCall::Keyset => self.keyset(alloc, line),
+            KeysCall::Sender => self.sender(line),
+            KeysCall::Guard => self.guard(line),
+        }
+    }
+
+    /// The calls of the sender.
+    pub fn sent(&mut self, alloc: Global, call: SenderCall, line: &mut CaseLine) -> Answer {
+        let Some(sender) = &mut self.sender else {
+            return Err(LineFault::Condition);
+        };
+        match call {
+            SenderCall::SenderTurn => yes_or_no(alloc, sender.turn_to(line.u64())),
+            SenderCall::Spent => yes_or_no(alloc, sender.spent()),
+            SenderCall::Front => front(alloc, sender, line),
+            SenderCall::MayProtect => may_protect(alloc, sender, line),
+            SenderCall::Protect => protect(alloc, sender, line),
+        }
+    }
+
+    /// The calls of the guard.
+    pub fn guarded(&mut self, alloc: Global, call: GuardCall, line: &mut CaseLine) -> Answer {
+        let Some(guard) = &mut self.guard else {
+            return Err(LineFault::Condition);
+        };
+        match call {
+            GuardCall::Test => test(alloc, guard, line),
+            GuardCall::Open => open(alloc, guard, line),
+        }
+    }
+
     /// `keysets`: begins a new list
-    pub fn keysets(&mut self) -> Answer {
+    fn keysets(&mut self) -> Answer {
         self.sets = ArrayVec::new();
         Ok(None)
     }
 
     /// `keyset TOKEN MOMENT SIGNING ENCRYPTING NONCE`
-    pub fn keyset(&mut self, alloc: Global, line: &mut CaseLine) -> Answer {
+    fn keyset(&mut self, alloc: Global, line: &mut CaseLine) -> Answer {
         match self.sets.try_push(key_set(alloc, line)?) {
             Ok(()) => Ok(None),
             Err(_) => Err(LineFault::Condition),
@@ -55,7 +89,7 @@ impl GuardRows {
     }
 
     /// `sender RANDOM FIRST USED`
-    pub fn sender(&mut self, line: &mut CaseLine) -> Answer {
+    fn sender(&mut self, line: &mut CaseLine) -> Answer {
         let random = line.array();
         let first = line.u32();
         let used = line.u32();
@@ -63,104 +97,72 @@ impl GuardRows {
         Ok(None)
     }
 
-    /// `turn MOMENT`: whether the token changed
-    pub fn turn(&mut self, alloc: Global, line: &mut CaseLine) -> Answer {
-        let now = line.u64();
-        match &mut self.sender {
-            Some(sender) => yes_or_no(alloc, sender.turn_to(now)),
-            None => Err(LineFault::Condition),
-        }
-    }
-
-    /// `spent`
-    pub fn spent(&self, alloc: Global) -> Answer {
-        match &self.sender {
-            Some(sender) => yes_or_no(alloc, sender.spent()),
-            None => Err(LineFault::Condition),
-        }
-    }
-
-    /// `front MODE`: flags, token and nonce of the next number; the sender isn't spent
-    pub fn front(&mut self, alloc: Global, line: &mut CaseLine) -> Answer {
-        let mode = secured(line)?;
-        match &mut self.sender {
-            Some(sender) if !sender.spent() => {
-                let part = sender.front(mode);
-                let flags = if part.encrypted { "se" } else { "s" };
-                let mut told = Told::new(alloc);
-                told.say(flags);
-                told.named(" ", Some(part.token));
-                told.named(" ", Some(Digits(part.nonce)));
-                told.answer()
-            }
-            _ => Err(LineFault::Condition),
-        }
-    }
-
-    /// `may_protect MODE PAYLOAD DATAGRAM`: whether the datagram carries the last front
-    pub fn may_protect(&self, alloc: Global, line: &mut CaseLine) -> Answer {
-        let mode = secured(line)?;
-        let payload = line.u32() as usize;
-        let datagram = line.piece(alloc);
-        match &self.sender {
-            Some(sender) => yes_or_no(alloc, sender.may_protect(mode, &datagram, payload)),
-            None => Err(LineFault::Condition),
-        }
-    }
-
-    /// `protect MODE HEADER PAYLOAD`: the protected datagram; the header carries the last front
-    pub fn protect(&self, alloc: Global, line: &mut CaseLine) -> Answer {
-        let mode = secured(line)?;
-        let (at, mut datagram) = unprotected(alloc, line)?;
-        match &self.sender {
-            Some(sender) if sender.may_protect(mode, &datagram, at) => {
-                sender.protect(mode, &mut datagram, at);
-                told(alloc, &Digits(&datagram))
-            }
-            _ => Err(LineFault::Condition),
-        }
-    }
-
     /// `guard MODE FIRST`
-    pub fn guard(&mut self, line: &mut CaseLine) -> Answer {
+    fn guard(&mut self, line: &mut CaseLine) -> Answer {
         let mode = mode_of(line.word())?;
         self.guard = Some(Guard::new(self.ring()?, mode, line.u32()));
         Ok(None)
     }
+}
 
-    /// `test FLAGS TOKEN NONCE PAYLOAD DATAGRAM`: token, number and end, or the refusal
-    pub fn test(&self, alloc: Global, line: &mut CaseLine) -> Answer {
-        let asked = Asked::read(alloc, line)?;
-        match &self.guard {
-            Some(guard) => match asked.test(guard) {
-                Ok(pass) => {
-                    let mut told = Told::new(alloc);
-                    told.named("pass ", Some(pass.token));
-                    told.named(" ", Some(pass.number));
-                    told.named(" ", Some(pass.end));
-                    told.answer()
-                }
-                Err(fault) => refused(alloc, &fault),
-            },
-            None => Err(LineFault::Condition),
-        }
+/// `front MODE`: flags, token and nonce of the next number; the sender isn't spent
+fn front(alloc: Global, sender: &mut Sender, line: &mut CaseLine) -> Answer {
+    let mode = secured(line)?;
+    if sender.spent() {
+        return Err(LineFault::Condition);
     }
+    let part = sender.front(mode);
+    let mut told = Told::new(alloc);
+    told.say(if part.encrypted { "se" } else { "s" });
+    told.fill(" # ", &[part.token as u64]);
+    told.show(&Digits(part.nonce));
+    told.answer()
+}
 
-    /// `open FLAGS TOKEN NONCE PAYLOAD DATAGRAM`: the decrypted payload, and whether the token was raised, or the refusal
-    pub fn open(&mut self, alloc: Global, line: &mut CaseLine) -> Answer {
-        let mut asked = Asked::read(alloc, line)?;
-        match &mut self.guard {
-            Some(guard) => match asked.test(guard) {
-                Ok(pass) => {
-                    guard.decrypt(&pass, &mut asked.datagram, asked.payload);
-                    let raised = if guard.accept(pass) { "raised" } else { "kept" };
-                    let payload = &asked.datagram[asked.payload..pass.end];
-                    two(alloc, &Digits(payload), &raised)
-                }
-                Err(fault) => refused(alloc, &fault),
-            },
-            None => Err(LineFault::Condition),
+/// `may_protect MODE PAYLOAD DATAGRAM`: whether the datagram carries the last front
+fn may_protect(alloc: Global, sender: &Sender, line: &mut CaseLine) -> Answer {
+    let mode = secured(line)?;
+    let payload = line.u32() as usize;
+    let datagram = line.piece(alloc);
+    yes_or_no(alloc, sender.may_protect(mode, &datagram, payload))
+}
+
+/// `protect MODE HEADER PAYLOAD`: the protected datagram; the header carries the last front
+fn protect(alloc: Global, sender: &Sender, line: &mut CaseLine) -> Answer {
+    let mode = secured(line)?;
+    let (at, mut datagram) = unprotected(alloc, line)?;
+    if !sender.may_protect(mode, &datagram, at) {
+        return Err(LineFault::Condition);
+    }
+    sender.protect(mode, &mut datagram, at);
+    told(alloc, &Digits(&datagram))
+}
+
+/// `test FLAGS TOKEN NONCE PAYLOAD DATAGRAM`: token, number and end, or the refusal
+fn test(alloc: Global, guard: &Guard, line: &mut CaseLine) -> Answer {
+    let asked = Asked::read(alloc, line)?;
+    match asked.test(guard) {
+        Ok(pass) => {
+            let mut told = Told::new(alloc);
+            let (token, number) = (pass.token as u64, pass.number as u64);
+            told.fill("pass # # #", &[token, number, pass.end as u64]);
+            told.answer()
         }
+        Err(fault) => refused(alloc, &fault),
+    }
+}
+
+/// `open FLAGS TOKEN NONCE PAYLOAD DATAGRAM`: the decrypted payload, and whether the token was raised, or the refusal
+fn open(alloc: Global, guard: &mut Guard, line: &mut CaseLine) -> Answer {
+    let mut asked = Asked::read(alloc, line)?;
+    match asked.test(guard) {
+        Ok(pass) => {
+            guard.decrypt(&pass, &mut asked.datagram, asked.payload);
+            let raised = if guard.accept(pass) { "raised" } else { "kept" };
+            let payload = &asked.datagram[asked.payload..pass.end];
+            two(alloc, &Digits(payload), &raised)
+        }
+        Err(fault) => refused(alloc, &fault),
     }
 }
 

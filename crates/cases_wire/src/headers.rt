@@ -1,10 +1,8 @@
 //! Rows of `uadp_header`.
-use crate::case_line::CaseLine;
 use crate::header_parts::HeaderParts;
 use crate::senders::is_senders;
 use crate::shown::tell_header;
-use crate::told::{Told, written};
-use case_lines::{Answer, LineFault, refused};
+use case_lines::{Answer, CaseLine, LineFault, Told, refused, written};
 use std::alloc::Global;
 use ua_binary::Pen;
 use uadp_header::{header_len, read_header as read_one, write_header};

@@ -1,7 +1,5 @@
 //! Rows of `chunker`.
-use crate::case_line::CaseLine;
-use crate::told::{Told, two, written};
-use case_lines::{Answer, Hex, LineFault, refused, yes_or_no};
+use case_lines::{Answer, CaseLine, Hex, LineFault, Told, refused, two, written, yes_or_no};
 use chunker::{ChunkPayload, Joined, Joiner, read_chunk as read_one, write_chunk as write_one};
 use std::alloc::Global;
 use ua_binary::Pen;
@@ -12,10 +10,9 @@ pub fn read_chunk(alloc: Global, line: &mut CaseLine) -> Answer {
     match read_one(&bytes) {
         Ok(chunk) => {
             let mut told = Told::new(alloc);
-            told.word("", Some(chunk.number));
-            told.word("", Some(chunk.offset));
-            told.word("", Some(chunk.total));
-            told.word("", Some(Hex(chunk.data)));
+            let (offset, total) = (chunk.offset as u64, chunk.total as u64);
+            told.fill("# # # ", &[chunk.number as u64, offset, total]);
+            told.show(&Hex(chunk.data));
             told.answer()
         }
         Err(fault) => refused(alloc, &fault),
@@ -77,12 +74,14 @@ impl JoinerRows {
         let part = line.bytes(alloc);
         let mut told = Told::new(alloc);
         match self.joiner.chunk(number, offset, total, &part) {
-            Joined::Whole(len) => told.named("whole ", Some(len)),
+            Joined::Whole(len) => told.fill("whole #", &[len as u64]),
             Joined::Part => told.say("part"),
             Joined::Older => told.say("older"),
-            Joined::TooLong { total } => told.named("toolong ", Some(total)),
-            Joined::BadRange { offset, total } => tell_two(&mut told, "badrange ", offset, total),
-            Joined::Differs { first, now } => tell_two(&mut told, "differs ", first, now),
+            Joined::TooLong { total } => told.fill("toolong #", &[total as u64]),
+            Joined::BadRange { offset, total } => {
+                told.fill("badrange # #", &[offset as u64, total as u64]);
+            }
+            Joined::Differs { first, now } => told.fill("differs # #", &[first as u64, now as u64]),
         }
         told.answer()
     }
@@ -97,9 +96,4 @@ impl JoinerRows {
         let bytes = line.bytes(alloc);
         yes_or_no(alloc, self.joiner.bytes() == bytes.as_slice())
     }
-}
-
-fn tell_two(told: &mut Told, name: &str, first: u32, second: u32) {
-    told.named(name, Some(first));
-    told.named(" ", Some(second));
 }

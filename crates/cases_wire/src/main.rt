@@ -1,10 +1,10 @@
 //! Cases of the crates of the wire and of rows, one a line: a call and its arguments, of what writers send and what readers hold,
-//! too (`row_calls`). Each line is printed again, with what the call answers behind ` -> `. Lines
+//! too. Each line is printed again, with what the call answers behind ` -> `. Lines
 //! that begin with `#`, and empty ones, are printed as they are.
 #![tactic(auto)]
 
 mod bench;
-mod case_line;
+mod calls;
 mod fields;
 mod frames;
 mod guards;
@@ -16,13 +16,11 @@ mod numbers;
 mod payloads;
 mod random;
 mod readers;
-mod row_calls;
 mod security;
 mod senders;
 mod shown;
 mod slots;
 mod timers;
-mod told;
 mod values;
 mod windows;
 mod writers;

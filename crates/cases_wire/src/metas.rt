@@ -1,8 +1,6 @@
 //! Rows of `dataset_meta`.
-use crate::case_line::CaseLine;
 use crate::fields::{meta_of, name_of};
-use crate::told::two;
-use case_lines::{Answer, LineFault, kind_of, number, parted, refused, said};
+use case_lines::{Answer, CaseLine, LineFault, kind_of, number, parted, refused, said, two};
 use dataset_meta::{Field, Meta, Name32};
 use std::alloc::Global;
 

@@ -1,6 +1,5 @@
 //! Rows of `seq_number`.
-use crate::case_line::CaseLine;
-use case_lines::{Answer, yes_or_no};
+use case_lines::{Answer, CaseLine, yes_or_no};
 use seq_number::newer;
 use std::alloc::Global;
 

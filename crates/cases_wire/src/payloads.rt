@@ -1,8 +1,6 @@
 //! Rows of `payload_layout`.
-use crate::case_line::CaseLine;
-use crate::told::{Told, written};
 use arrayvec::ArrayVec;
-use case_lines::{Answer, LineFault, number, said};
+use case_lines::{Answer, CaseLine, LineFault, Told, number, said, written};
 use payload_layout::{
     Packs, Parts, plan as plan_packs, split as split_parts, write_sizes as write_list,
 };
@@ -38,8 +36,7 @@ pub fn split(alloc: Global, line: &mut CaseLine) -> Answer {
     let mut told = Told::new(alloc);
     for part in parts.iter() {
         told.apart(", ");
-        told.show(&part.start);
-        told.named("-", Some(part.end));
+        told.fill("#-#", &[part.start as u64, part.end as u64]);
     }
     told.answer_or("none")
 }

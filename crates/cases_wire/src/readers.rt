@@ -5,10 +5,9 @@ ghost use Rattle.frame_codec.specs.Words.{IsFrameOf, IsKindOf};
 ghost use Rattle.dataset_reader.specs.Reader.{IsReaderOf};
 ghost use Rattle.dataset_reader.specs.Props.{IsReaderOf-prop};
 
-use crate::case_line::CaseLine;
+use crate::calls::HeardCall;
 use crate::fields::{Case, Put, number_field, patch_of};
-use crate::told::Told;
-use case_lines::{Answer, LineFault, refused};
+use case_lines::{Answer, CaseLine, LineFault, Told, refused};
 use dataset_reader::{Numbering, Outcome, Reader, Took};
 use frame_codec::{Frame, FrameKind, read_frame};
 use pubsub_model::Why;
@@ -28,11 +27,7 @@ impl ReaderRows {
 
     /// `reader message` or `reader none`: a reader with this numbering
     pub fn reader(&mut self, alloc: Global, line: &mut CaseLine) -> Answer {
-        let numbering = match line.word() {
-            "message" => Numbering::Message,
-            "none" => Numbering::Unnumbered,
-            _ => return Err(LineFault::Missing),
-        };
+        let numbering = line.named(&NUMBERINGS, Numbering::Message);
         let mut fields = Vec::new(alloc);
         fields.push(number_field("a")?)?;
         let case = Case::opening(fields, 1, 0)?;
@@ -41,111 +36,80 @@ impl ReaderRows {
         Ok(None)
     }
 
-    /// `whole NUMBER VALUE`, `change NUMBER VALUE` or `alive NUMBER`, where `-` is no number, and `stamp S`, `major M`, `minor M`
-    /// may stand behind: major 1 where none stands there, none with `major -`. The outcome; number and value that are held, `-`
-    /// where none is; and where the run of numbers broke `; broke EXPECTED GOT`
-    pub fn frame(&mut self, alloc: Global, kind: &str, line: &mut CaseLine) -> Answer {
-        let Some(heard) = &mut self.heard else {
-            return Err(LineFault::Missing);
-        };
-        let number = line.left.number_or_dash::<u16>()?;
-        let value = if kind == "alive" { 0 } else { line.u32() };
-        let carried = Carried::read(line)?;
-        heard.frame(alloc, kind, number, value, &carried)
-    }
-
-    /// `bytes BYTES`: what a frame that is read from these bytes gives, told as by `whole`
-    pub fn bytes(&mut self, alloc: Global, line: &mut CaseLine) -> Answer {
-        let bytes = line.bytes(alloc);
-        let Some(heard) = &mut self.heard else {
-            return Err(LineFault::Missing);
-        };
-        heard.bytes(alloc, &bytes)
-    }
-
-    /// `cut WHY`: the reason, and what is held
-    pub fn cut(&mut self, alloc: Global, line: &mut CaseLine) -> Answer {
-        let why = why_of(line.word())?;
-        let Some(heard) = &mut self.heard else {
-            return Err(LineFault::Missing);
-        };
-        heard.reader.cut(why);
-        let mut told = Told::new(alloc);
-        told.name(&heard.reader.why());
-        heard.tell_held(&mut told);
-        told.answer()
-    }
-
-    /// `why`: why no row is held
-    pub fn why(&self, alloc: Global) -> Answer {
-        let Some(heard) = &self.heard else {
-            return Err(LineFault::Missing);
-        };
-        refused(alloc, &heard.reader.why())
-    }
-
-    /// `breaks`: how many, and EXPECTED:GOT of the last eight, the oldest first
-    pub fn breaks(&self, alloc: Global) -> Answer {
-        let Some(heard) = &self.heard else {
-            return Err(LineFault::Missing);
-        };
-        let mut told = Told::new(alloc);
-        told.show(&heard.reader.breaks());
-        for broke in heard.reader.recent() {
-            told.named(" ", Some(broke.expected));
-            told.named(":", Some(broke.got));
+    /// The calls of the reader.
+    pub fn heard(&mut self, alloc: Global, call: HeardCall, line: &mut CaseLine) -> Answer {
+        match &mut self.heard {
+            Some(heard) => heard.answer(alloc, call, line),
+            None => Err(LineFault::Missing),
         }
-        told.answer()
     }
 }
 
-/// What a frame carries beside its fields, and its message's stamp.
+static NUMBERINGS: [(&str, Numbering); 2] = [
+    ("message", Numbering::Message),
+    ("none", Numbering::Unnumbered),
+];
+
+static REASONS: [(&str, Why); 6] = [
+    ("Start", Why::Start),
+    ("Gap", Why::Gap),
+    ("Timeout", Why::Timeout),
+    ("NewToken", Why::NewToken),
+    ("Jump", Why::Jump),
+    ("Restarted", Why::Restarted),
+];
+
+/// What a frame is, what it carries beside its fields, and its message's stamp.
 #[derive(Clone, Copy)]
 struct Carried {
+    number: Option<u16>,
+    value: u32,
     major: Option<u32>,
     minor: Option<u32>,
     stamp: Option<u32>,
 }
 
+#[derive(Clone, Copy)]
+enum Shape {
+    Whole,
+    Change,
+    Alive,
+}
+
 impl Carried {
-    fn read(line: &mut CaseLine) -> Result<Carried, LineFault> {
+    /// `NUMBER VALUE`, or `NUMBER` of a keep-alive, and the parts behind them.
+    fn read(shape: Shape, line: &mut CaseLine) -> Carried {
+        let number = line.number_or_dash();
+        let value = match shape {
+            Shape::Whole | Shape::Change => line.u32(),
+            Shape::Alive => 0,
+        };
         let mut carried = Carried {
+            number,
+            value,
             major: Some(1),
             minor: None,
             stamp: None,
         };
-        carried.take(line)?;
-        carried.take(line)?;
-        carried.take(line)?;
-        Ok(carried)
+        carried.take(line);
+        carried.take(line);
+        carried.take(line);
+        carried
     }
 
     /// One of its parts by its name, where one is left.
-    fn take(&mut self, line: &mut CaseLine) -> Result<(), LineFault> {
-        let Some(name) = line.left.optional() else {
-            return Ok(());
+    fn take(&mut self, line: &mut CaseLine) {
+        let Some(name) = line.optional() else {
+            return;
         };
-        let number = line.left.number_or_dash::<u32>()?;
+        let number = line.number_or_dash();
         match name {
             "major" => self.major = number,
             "minor" => self.minor = number,
             "stamp" => self.stamp = number,
-            _ => return Err(LineFault::Missing),
+            _ => line.fail(LineFault::Missing),
         }
-        Ok(())
     }
-}
-
-fn why_of(word: &str) -> Result<Why, LineFault> {
-    Ok(match word {
-        "Start" => Why::Start,
-        "Gap" => Why::Gap,
-        "Timeout" => Why::Timeout,
-        "NewToken" => Why::NewToken,
-        "Jump" => Why::Jump,
-        "Restarted" => Why::Restarted,
-        _ => return Err(LineFault::Missing),
-    })
 }
 
 /// A reader, with its data set.
@@ -157,26 +121,35 @@ struct Heard {
 }
 
 impl Heard {
-    fn frame(
-        &mut self,
-        alloc: Global,
-        kind: &str,
-        number: Option<u16>,
-        value: u32,
-        carried: &Carried,
-    ) -> Answer {
+    fn answer(&mut self, alloc: Global, call: HeardCall, line: &mut CaseLine) -> Answer {
+        match call {
+            HeardCall::Whole => self.frame(alloc, Shape::Whole, line),
+            HeardCall::Change => self.frame(alloc, Shape::Change, line),
+            HeardCall::Alive => self.frame(alloc, Shape::Alive, line),
+            HeardCall::Bytes => self.bytes(alloc, &line.bytes(alloc)),
+            HeardCall::Cut => self.cut(alloc, line.named(&REASONS, Why::Start)),
+            HeardCall::Why => refused(alloc, &self.reader.why()),
+            HeardCall::Breaks => self.breaks(alloc),
+        }
+    }
+
+    /// `whole NUMBER VALUE`, `change NUMBER VALUE` or `alive NUMBER`, where `-` is no number, and `stamp S`, `major M`, `minor M`
+    /// may stand behind: major 1 where none stands there, none with `major -`. The outcome; number and value that are held, `-`
+    /// where none is; and where the run of numbers broke `; broke EXPECTED GOT`
+    fn frame(&mut self, alloc: Global, shape: Shape, line: &mut CaseLine) -> Answer {
+        let carried = Carried::read(shape, line);
         let put = Put {
             index: 0,
-            value: Value::UInt32(value),
+            value: Value::UInt32(carried.value),
         };
         self.case.set(&put)?;
-        let kind = match kind {
-            "whole" => FrameKind::Whole(self.case.row),
-            "change" => FrameKind::Change(patch_of(&self.case.meta, &put)?),
-            _ => FrameKind::Alive,
+        let kind = match shape {
+            Shape::Whole => FrameKind::Whole(self.case.row),
+            Shape::Change => FrameKind::Change(patch_of(&self.case.meta, &put)?),
+            Shape::Alive => FrameKind::Alive,
         };
         let frame = Frame {
-            number,
+            number: carried.number,
             kind,
             major: carried.major,
             minor: carried.minor,
@@ -185,6 +158,7 @@ impl Heard {
         self.told(alloc, &took)
     }
 
+    /// `bytes BYTES`: what a frame that is read from these bytes gives, told as by `whole`
     fn bytes(&mut self, alloc: Global, bytes: &[u8]) -> Answer {
         let Ok(frame) = read_frame(&self.case.meta, bytes) else {
             return Err(LineFault::Condition);
@@ -193,14 +167,32 @@ impl Heard {
         self.told(alloc, &took)
     }
 
+    /// `cut WHY`: the reason, and what is held
+    fn cut(&mut self, alloc: Global, why: Why) -> Answer {
+        self.reader.cut(why);
+        let mut told = Told::new(alloc);
+        told.name(&self.reader.why());
+        self.tell_held(&mut told);
+        told.answer()
+    }
+
+    /// `breaks`: how many, and EXPECTED:GOT of the last eight, the oldest first
+    fn breaks(&self, alloc: Global) -> Answer {
+        let mut told = Told::new(alloc);
+        told.show(&self.reader.breaks());
+        for broke in self.reader.recent() {
+            told.fill(" #:#", &[broke.expected as u64, broke.got as u64]);
+        }
+        told.answer()
+    }
+
     /// The outcome, what is held, and the break.
     fn told(&self, alloc: Global, took: &Took) -> Answer {
         let mut told = Told::new(alloc);
         tell_outcome(&mut told, took.outcome);
         self.tell_held(&mut told);
         if let Some(broke) = took.broke {
-            told.named("; broke ", Some(broke.expected));
-            told.named(" ", Some(broke.got));
+            told.fill("; broke # #", &[broke.expected as u64, broke.got as u64]);
         }
         told.answer()
     }

@@ -1,10 +1,10 @@
 //! Rows of `aes_ctr`, `hmac_sign` and `group_keys`.
-use crate::case_line::CaseLine;
 use crate::guards::encrypting_key;
-use crate::told::Told;
 use aes_ctr::{Key, Key128, Key256, apply_stream};
 use arrayvec::ArrayVec;
-use case_lines::{Answer, Hex, LineFault, number, parted, refused, said, told_bytes};
+use case_lines::{
+    Answer, CaseLine, Hex, LineFault, Told, number, parted, refused, said, told_bytes,
+};
 use group_keys::{KeySet, Ring};
 use hmac_sign::{SigningKey, matches, sign};
 use std::alloc::Global;

@@ -1,6 +1,5 @@
 //! Headers as text.
-use crate::told::Told;
-use case_lines::Digits;
+use case_lines::{Digits, Told};
 use uadp_header::{Header, Ids, PublisherId, SecurityPart};
 
 /// A header by its parts, as `spell_header` takes them; `-` where there is none.

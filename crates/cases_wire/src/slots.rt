@@ -1,11 +1,11 @@
 //! Rows of `fixed_layout`.
 ghost use Rattle.std.specs.Prelude.{◌≤◌, length};
 
-use crate::case_line::CaseLine;
 use crate::frames::tell_fields;
-use crate::told::{Told, two, written};
 use arrayvec::ArrayVec;
-use case_lines::{Answer, LineFault, number, parted, refused, said, told};
+use case_lines::{
+    Answer, CaseLine, LineFault, Told, number, parted, refused, said, told, two, written,
+};
 use dataset_meta::Meta;
 use fixed_layout::{
     Slot, Slots, raw_size as size_of, read_raw as read_one, write_raw as write_one,

@@ -1,6 +1,5 @@
 //! Rows of `receive_timer`.
-use crate::case_line::CaseLine;
-use case_lines::{Answer, yes_or_no};
+use case_lines::{Answer, CaseLine, yes_or_no};
 use receive_timer::Timer;
 use std::alloc::Global;
 

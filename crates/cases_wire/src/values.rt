@@ -1,7 +1,8 @@
 //! Rows of `ua_values` and `ua_binary`.
-use crate::case_line::CaseLine;
-use crate::told::{Told, written};
-use case_lines::{Answer, Digits, LineFault, Shown, kind_of, refused, said, value_of, yes_or_no};
+use case_lines::{
+    Answer, CaseLine, Digits, LineFault, Shown, Told, kind_of, refused, said, value_of, written,
+    yes_or_no,
+};
 use std::alloc::Global;
 use ua_binary::{
     Cursor, Measured, Pen, ValueFault, read_data_value as read_measured,

@@ -1,7 +1,5 @@
 //! Rows of `replay_window`.
-use crate::case_line::CaseLine;
-use crate::told::two;
-use case_lines::{Answer, said};
+use case_lines::{Answer, CaseLine, said, two};
 use replay_window::{Seen, Window};
 use std::alloc::Global;
 

@@ -4,18 +4,16 @@ ghost use Rattle.dataset_writer.specs.Standing.{HoldsRowOf};
 ghost use Rattle.dataset_writer.specs.Props.{HoldsRowOf-prop};
 ghost use Rattle.frame_codec.specs.Words.{IsFrameOf};
 
-use crate::case_line::CaseLine;
-use crate::fields::{Case, Put, number_field};
+use crate::calls::{ServedCall, WriterCall};
+use crate::fields::{Case, number_field};
 use crate::frames::kind_of;
 use crate::readers::number_in;
-use crate::told::Told;
-use case_lines::{Answer, LineFault, number, said};
+use case_lines::{Answer, CaseLine, LineFault, Told, said};
 use dataset_meta::Meta;
 use dataset_writer::{Turn, Writer, WriterSettings};
 use frame_codec::{Frame, FrameKind};
 use row_words::Patch;
 use std::alloc::Global;
-use ua_values::Value;
 
 /// Turns that a writer has room for.
 const TURNS: u32 = 70_000;
@@ -35,8 +33,25 @@ impl WriterRows {
         }
     }
 
+    /// The calls that give a data set and a writer.
+    pub fn given(&mut self, alloc: Global, call: WriterCall, line: &mut CaseLine) -> Answer {
+        match call {
+            WriterCall::Data => self.data(alloc, line),
+            WriterCall::Writer => self.writer(alloc, line),
+            WriterCall::Refresh => self.refresh(),
+        }
+    }
+
+    /// The calls of the writer.
+    pub fn served(&mut self, alloc: Global, call: ServedCall, line: &mut CaseLine) -> Answer {
+        match &mut self.served {
+            Some(served) => served.answer(alloc, call, line),
+            None => Err(LineFault::Missing),
+        }
+    }
+
     /// `data NAME ..`: the data set of the next `writer` or `refresh`, with a UInt32 field for each name
-    pub fn data(&mut self, alloc: Global, line: &mut CaseLine) -> Answer {
+    fn data(&mut self, alloc: Global, line: &mut CaseLine) -> Answer {
         let mut fields = Vec::new(alloc);
         for name in line.words() {
             fields.push(number_field(name)?)?;
@@ -46,7 +61,7 @@ impl WriterRows {
     }
 
     /// `writer FIRST KEY_FRAME_COUNT KEEP_ALIVE VERSIONS`: a fresh writer whose first number is FIRST
-    pub fn writer(&mut self, alloc: Global, line: &mut CaseLine) -> Answer {
+    fn writer(&mut self, alloc: Global, line: &mut CaseLine) -> Answer {
         let settings = WriterSettings {
             first_number: line.u16(),
             key_frame_count: line.u32(),
@@ -65,7 +80,7 @@ impl WriterRows {
     }
 
     /// `refresh`: the writer is fresh, and its data set from now on is that of a line `data` since
-    pub fn refresh(&mut self) -> Answer {
+    fn refresh(&mut self) -> Answer {
         let Some(served) = self.served.take() else {
             return Err(LineFault::Missing);
         };
@@ -77,47 +92,6 @@ impl WriterRows {
         };
         self.served = Some(Served { case, writer });
         Ok(None)
-    }
-
-    /// `turn NOW VERSION VALUE ..`, or `closing` for `turn`: the frame's kind, its number, for a delta frame INDEX=VALUE of each
-    /// change, and the version where the frame carries it; or `quiet`
-    pub fn turn(&mut self, alloc: Global, line: &mut CaseLine, closing: bool) -> Answer {
-        let (now, version) = (line.u64(), line.u64());
-        let values = values_of(alloc, line)?;
-        let Some(served) = &mut self.served else {
-            return Err(LineFault::Missing);
-        };
-        served.turn(alloc, now, version, &values, closing)
-    }
-
-    /// `quiet TURNS NOW VERSION VALUE ..`: whether so many turns, each the same, were all quiet
-    pub fn quiet(&mut self, alloc: Global, line: &mut CaseLine) -> Answer {
-        let turns = line.u32();
-        let (now, version) = (line.u64(), line.u64());
-        let values = values_of(alloc, line)?;
-        let Some(served) = &mut self.served else {
-            return Err(LineFault::Missing);
-        };
-        for _ in 0..turns {
-            match served.turn(alloc, now, version, &values, false)? {
-                Some(text) if text.as_str() == "quiet" => {}
-                _ => return said(alloc, "no"),
-            }
-        }
-        said(alloc, "yes")
-    }
-
-    /// `log`: PLACE:VERSION of each data frame
-    pub fn log(&self, alloc: Global) -> Answer {
-        let Some(served) = &self.served else {
-            return Err(LineFault::Missing);
-        };
-        let mut told = Told::new(alloc);
-        for (place, version) in served.writer.log() {
-            told.word("", Some(*place));
-            told.named(":", Some(*version));
-        }
-        told.answer()
     }
 
     /// The data set that no writer has yet, or that of the writer before.
@@ -132,20 +106,6 @@ impl WriterRows {
     }
 }
 
-/// A value for each field, Good.
-fn values_of(alloc: Global, line: &CaseLine) -> Result<Vec<Put>, LineFault> {
-    let mut values = Vec::new(alloc);
-    let mut index = 0_u8;
-    for word in line.words() {
-        values.push(Put {
-            index,
-            value: Value::UInt32(number(word)?),
-        })?;
-        index = index.saturating_add(1);
-    }
-    Ok(values)
-}
-
 /// A writer, with its data set and the row of the last turn.
 #[derive(Drop)]
 struct Served {
@@ -154,24 +114,75 @@ struct Served {
     ghost holds: { HoldsRowOf case.meta writer } by { HoldsRowOf-prop case.meta writer },
 }
 
+/// When a turn is, with which version and which values, and whether it is the closing one.
+#[derive(Drop)]
+struct Asked {
+    now: u64,
+    version: u64,
+    values: Vec<u32>,
+    closing: bool,
+}
+
+impl Asked {
+    /// `NOW VERSION VALUE ..`
+    fn read(alloc: Global, line: &mut CaseLine, closing: bool) -> Asked {
+        Asked {
+            now: line.u64(),
+            version: line.u64(),
+            values: line.numbers(alloc),
+            closing,
+        }
+    }
+}
+
 impl Served {
-    fn turn(
-        &mut self,
-        alloc: Global,
-        now: u64,
-        version: u64,
-        values: &[Put],
-        closing: bool,
-    ) -> Answer {
+    fn answer(&mut self, alloc: Global, call: ServedCall, line: &mut CaseLine) -> Answer {
+        match call {
+            ServedCall::Turn => self.turn(alloc, &Asked::read(alloc, line, false)),
+            ServedCall::Closing => self.turn(alloc, &Asked::read(alloc, line, true)),
+            ServedCall::Quiet => self.quiet(alloc, line),
+            ServedCall::Log => self.log(alloc),
+        }
+    }
+
+    /// `turn NOW VERSION VALUE ..`, or `closing` for `turn`: the frame's kind, its number, for a delta frame INDEX=VALUE of each
+    /// change, and the version where the frame carries it; or `quiet`
+    fn turn(&mut self, alloc: Global, asked: &Asked) -> Answer {
         if self.writer.left() == 0 {
             return Err(LineFault::Condition);
         }
-        self.case.set_all(values)?;
+        self.case.set_from(0, &asked.values)?;
         let Case { meta, row } = &self.case;
-        match self.writer.turn(meta, now, row, version, closing) {
+        match self
+            .writer
+            .turn(meta, asked.now, row, asked.version, asked.closing)
+        {
             Turn::Send(frame) => frame_text(alloc, meta, &frame),
             Turn::Quiet => said(alloc, "quiet"),
         }
+    }
+
+    /// `quiet TURNS NOW VERSION VALUE ..`: whether so many turns, each the same, were all quiet
+    fn quiet(&mut self, alloc: Global, line: &mut CaseLine) -> Answer {
+        let turns = line.u32();
+        let asked = Asked::read(alloc, line, false);
+        for _ in 0..turns {
+            match self.turn(alloc, &asked)? {
+                Some(text) if text.as_str() == "quiet" => {}
+                _ => return said(alloc, "no"),
+            }
+        }
+        said(alloc, "yes")
+    }
+
+    /// `log`: PLACE:VERSION of each data frame
+    fn log(&self, alloc: Global) -> Answer {
+        let mut told = Told::new(alloc);
+        for (place, version) in self.writer.log() {
+            told.apart(" ");
+            told.fill("#:#", &[*place, *version]);
+        }
+        told.answer()
     }
 }
 
@@ -186,8 +197,7 @@ fn frame_text(alloc: Global, meta: &Meta, frame: &Frame) -> Answer
         tell_changes(&mut told, meta, patch);
     }
     if let (Some(major), Some(minor)) = (frame.major, frame.minor) {
-        told.named(" version ", Some(major));
-        told.named(".", Some(minor));
+        told.fill(" version #.#", &[major as u64, minor as u64]);
     }
     told.answer()
 }
@@ -198,8 +208,8 @@ fn tell_changes(told: &mut Told, meta: &Meta, patch: &Patch)
 {
     for index in 0..meta.fields().len() {
         if patch.mask >> (index % 64) & 1 == 1 {
-            told.named(" ", Some(index));
-            told.named("=", number_in(&patch.row.field(meta, index as u8)));
+            told.fill(" #=", &[index as u64]);
+            told.named("", number_in(&patch.row.field(meta, index as u8)));
         }
     }
 }

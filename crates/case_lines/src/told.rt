@@ -1,5 +1,6 @@
 //! Answers that are made piece by piece.
-use case_lines::{Answer, LineFault, said, told_bytes};
+use crate::answered::{Answer, said, told_bytes};
+use crate::fault::LineFault;
 use std::alloc::Global;
 use std::fmt::{self, Write};
 
@@ -28,6 +29,18 @@ impl Told {
 
     pub fn show<T: fmt::Display>(&mut self, it: &T) {
         self.lacks_memory |= write!(self.text, "{it}").is_err();
+    }
+
+    /// A pattern, in which each `#` stands for the next of the numbers.
+    pub fn fill(&mut self, pattern: &str, numbers: &[u64]) {
+        let mut at = 0_usize;
+        for piece in pattern.split('#') {
+            self.say(piece);
+            if let Some(number) = numbers.get(at) {
+                self.show(number);
+            }
+            at = at.saturating_add(1);
+        }
     }
 
     /// The name of a fault or a reason.
@@ -72,10 +85,14 @@ impl Told {
     }
 
     pub fn answer(self) -> Answer {
+        Ok(Some(self.text()?))
+    }
+
+    pub fn text(self) -> Result<String, LineFault> {
         if self.lacks_memory {
             return Err(LineFault::Memory);
         }
-        Ok(Some(self.text))
+        Ok(self.text)
     }
 }
 
