@@ -19,6 +19,7 @@ use ua_base::NoMemory;
 use writer_group::Sampled;
 
 /// An opening row of each data set.
+#[inline(never)]
 pub fn rows_of(alloc: Global, metas: &[Meta]) -> Result<Vec<Sampled>, NoMemory>
     ensures rows { IfOk result (λ rows. AreRowsOf metas.now rows.items) }
     ensures opening { IfOk result (λ rows. AllZip IsOpeningRow metas.now rows.items) }
@@ -33,6 +34,7 @@ pub fn rows_of(alloc: Global, metas: &[Meta]) -> Result<Vec<Sampled>, NoMemory>
 }
 
 /// A sender of each key group, which goes on behind the numbers that the configuration tells of.
+#[inline(never)]
 pub fn senders_of(alloc: Global, keygroups: &[KeyGroupPart]) -> Result<Vec<Sender>, NoMemory>
     requires { All IsKeyGroup keygroups.now }
     ensures senders { IfOk result (λ senders. All IsSender senders.items) }
@@ -41,13 +43,14 @@ pub fn senders_of(alloc: Global, keygroups: &[KeyGroupPart]) -> Result<Vec<Sende
 {
     let mut senders = Vec::new(alloc);
     for keygroup in keygroups {
-        let ring = ring_of(keygroup);
-        senders.push(sender_with(keygroup, ring, 0, keygroup.used))?;
+        let sender = sender_with(keygroup, ring_of(keygroup), 0, keygroup.used);
+        senders.push(sender)?;
     }
     Ok(senders)
 }
 
 /// The ring of each key group's keys.
+#[inline(never)]
 pub fn rings_of(alloc: Global, keygroups: &[KeyGroupPart]) -> Result<Vec<Ring>, NoMemory>
     requires { All IsKeyGroup keygroups.now }
     ensures opening { IfOk result (λ rings. AllZip IsConfiguredRing keygroups.now rings.items) }
@@ -70,6 +73,7 @@ pub fn copy_of(ring: &Ring) -> Ring
 }
 
 /// The sender of a key group with this ring, behind so many numbers.
+#[inline(always)]
 pub fn sender_with(keygroup: &KeyGroupPart, ring: Ring, now: u64, used: u32) -> Sender
     ensures sender { IsSender result }
     ensures resumed { IsResumed keygroup.now (key_sets ring) now used result }
@@ -78,6 +82,7 @@ pub fn sender_with(keygroup: &KeyGroupPart, ring: Ring, now: u64, used: u32) -> 
 }
 
 /// The groups, in the configuration's order.
+#[inline(never)]
 pub fn sides_of(alloc: Global, config: &Config) -> Result<Vec<Side>, NoMemory>
     requires { IsGood config.now }
     ensures sides { IfOk result (λ sides. All (IsSide config.now) sides.items) }
@@ -93,6 +98,7 @@ pub fn sides_of(alloc: Global, config: &Config) -> Result<Vec<Side>, NoMemory>
 }
 
 /// The read groups, in the configuration's order.
+#[inline(never)]
 pub fn listenings_of(alloc: Global, config: &Config) -> Result<Vec<Listening>, NoMemory>
     requires { IsGood config.now }
     ensures groups { IfOk result (λ groups. All (IsListening config.now) groups.items) }

@@ -35,7 +35,7 @@ abbrev pub index_of : ReaderGroup → ℕ
 index_of group = group.index
 
 abbrev pub guard_of : ReaderGroup → Guard
-guard_of group = group.guard
+guard_of group = group.guard.value
 
 abbrev pub members_of : ReaderGroup → List Member
 members_of group = group.members.items

@@ -3,15 +3,14 @@ ghost use Rattle.std.specs.Prelude.{◌≤◌, length};
 
 use crate::feeding::{expire_all, feed_all, part_count, stop_one};
 use crate::filter::{refusal_of, takes_number};
-use crate::guarding::{guard_of, pair_on, stamp_of};
+use crate::guarding::{new_guard, pair_on, stamp_of};
 use crate::making::{new_members, part_at};
 use crate::member::Member;
 use crate::notice::Notice;
-use crate::opening::{Buffers, open, payload_held};
+use crate::opening::{Buffers, new_room, open, payload_held};
 use crate::receipt::{Receipt, TokenNumber};
 use crate::refusal::{Refusal, Taken};
 use crate::refused::Refused;
-use arrayvec::ArrayVec;
 use dataset_reader::Reader;
 use group_keys::Ring;
 use message_guard::Guard;
@@ -25,7 +24,7 @@ use uadp_header::{Header, HeaderFault};
 #[derive(Drop)]
 pub struct ReaderGroup {
     index: u8,
-    guard: Guard,
+    guard: Box<Guard>,
     members: Vec<Member>,
     // what is noted of each reader, by its index
     notices: [Notice; 16],
@@ -33,7 +32,7 @@ pub struct ReaderGroup {
     pair: Option<TokenNumber>,
     refused: Refused,
     // room for what one datagram tells; it says nothing between two
-    room: Buffers,
+    room: Box<Buffers>,
     ghost few: { length members.items ≤ 16 },
 }
 
@@ -61,8 +60,9 @@ impl ReaderGroup {
         ensures notices { IfOk result (λ group. notices_of group ≡ no_notices) }
     {
         let part = part_at(config, index);
-        let guard = guard_of(config, part);
         let members = new_members(alloc, config, part)?;
+        let room = new_room(alloc)?;
+        let guard = new_guard(alloc, config, part)?;
         Ok(ReaderGroup {
             index,
             guard,
@@ -70,10 +70,7 @@ impl ReaderGroup {
             notices: [Notice::default(); 16],
             pair: None,
             refused: Refused::default(),
-            room: Buffers {
-                ids: ArrayVec::new(),
-                parts: ArrayVec::new(),
-            },
+            room,
         })
     }
 

@@ -1,5 +1,5 @@
 //! The guard of a read group, and which number it has from a datagram.
-ghost use Rattle.std.specs.Prelude.{◌≡◌, ◌<◌, [], ◌∷◌, length, map, replicate, slice_index_or, Contains};
+ghost use Rattle.std.specs.Prelude.{◌≡◌, ◌<◌, [], ◌∷◌, length, map, replicate, slice_index_or, Contains, IfOk};
 ghost use Rattle.group_keys.specs.Ring.{key_sets};
 ghost use Rattle.message_guard.specs.Guards.{IsGuardOf, setup_of};
 ghost use Rattle.message_guard.specs.Protection.{keys_in};
@@ -14,21 +14,54 @@ use arrayvec::ArrayVec;
 use group_keys::{KeySet, Ring};
 use message_guard::{Guard, Pass1};
 use ps_config::{Config, KeyGroupPart, ReadGroupPart, Security, mode_of, ring_of};
+use std::alloc::Global;
+use ua_base::NoMemory;
 
-/// The guard of a read group, by its key group if it has one.
-pub(crate) fn guard_of(config: &Config, group: &ReadGroupPart) -> Guard
+/// The guard of a read group, by its key group if it has one. It stays where it lies: it is too large to be moved with its group.
+#[inline(never)]
+pub(crate) fn new_guard(
+    alloc: Global,
+    config: &Config,
+    group: &ReadGroupPart,
+) -> Result<Box<Guard>, NoMemory>
     requires sound { IsSound config.now }
     requires group { Contains config.now.readgroup group.now }
-    ensures setup { setup_of result ≡ setup_by config.now group.now group.now.keygroup }
-    ensures none_accepted { IsGuardOf [] result }
+    ensures setup { IfOk result (λ guard.
+        setup_of guard.value ≡ setup_by config.now group.now group.now.keygroup) }
+    ensures none_accepted { IfOk result (λ guard. IsGuardOf [] guard.value) }
 {
-    let mode = mode_of(group.security);
+    let ring = ring_for(config, group);
+    let first_block = first_block_of(config, group);
+    match Box::new(
+        alloc,
+        Guard::new(ring, mode_of(group.security), first_block),
+    ) {
+        Ok(guard) => Ok(guard),
+        Err(_) => Err(NoMemory),
+    }
+}
+
+// The ring of its key group, or one that an unsecured group never uses.
+fn ring_for(config: &Config, group: &ReadGroupPart) -> Ring
+    requires sound { IsSound config.now }
+    requires group { Contains config.now.readgroup group.now }
+    ensures { map keys_in (key_sets result)
+        ≡ (setup_by config.now group.now group.now.keygroup).keys }
+{
     match group.keygroup {
-        None => Guard::new(unused_ring(), mode, 0),
-        Some(index) => {
-            let keys = keys_at(config, index);
-            Guard::new(ring_of(keys), mode, keys.first_block)
-        }
+        None => unused_ring(),
+        Some(index) => ring_of(keys_at(config, index)),
+    }
+}
+
+fn first_block_of(config: &Config, group: &ReadGroupPart) -> u32
+    requires sound { IsSound config.now }
+    requires group { Contains config.now.readgroup group.now }
+    ensures { result ≡ (setup_by config.now group.now group.now.keygroup).first_block }
+{
+    match group.keygroup {
+        None => 0,
+        Some(index) => keys_at(config, index).first_block,
     }
 }
 

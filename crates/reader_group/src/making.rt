@@ -17,6 +17,7 @@ pub(crate) fn part_at(config: &Config, index: u8) -> &ReadGroupPart
 }
 
 /// The readers of a read group of this configuration, before anything.
+#[inline(never)]
 pub(crate) fn new_members(
     alloc: Global,
     config: &Config,

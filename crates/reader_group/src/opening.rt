@@ -16,6 +16,8 @@ use arrayvec::ArrayVec;
 use message_guard::Guard;
 use payload_layout::{Parts, split};
 use ps_config::{Layout, ReadGroupPart};
+use std::alloc::Global;
+use ua_base::NoMemory;
 use uadp_header::{Ids, read_header};
 
 /// Buffers for the writer ids of a datagram, two bytes each, and for the places of its messages.
@@ -23,6 +25,19 @@ use uadp_header::{Ids, read_header};
 pub(crate) struct Buffers {
     pub ids: ArrayVec<u8, 510>,
     pub parts: Parts,
+}
+
+/// Empty buffers, which stay where they lie: they are too large to be moved with their group.
+#[inline(never)]
+pub(crate) fn new_room(alloc: Global) -> Result<Box<Buffers>, NoMemory> {
+    let room = Buffers {
+        ids: ArrayVec::new(),
+        parts: ArrayVec::new(),
+    };
+    match Box::new(alloc, room) {
+        Ok(room) => Ok(room),
+        Err(_) => Err(NoMemory),
+    }
 }
 
 /// Opens a datagram: it is decrypted in place, and the places of its messages are found. A refusal may leave the room changed, and
