@@ -14,9 +14,9 @@ use Rattle.device.specs.declared.publisher.Publisher.{Publisher}
 use Rattle.device.specs.declared.restoring.RestoreFault.{RestoreFault}
 use Rattle.device.specs.declared.restoring.RestoreFault.TheVariants as faults
 use Rattle.device.specs.declared.storing.Storing.{Storing}
-use Rattle.device.specs.Beginning.{IsBegunConfig}
+use Rattle.device.specs.Beginning.{HaveBegun}
 use Rattle.device.specs.Fingerprints.{identity_of}
-use Rattle.device.specs.Sides.{AreOpeningSides, IsNoLess, IsNoLower, IsResumed}
+use Rattle.device.specs.Sides.{IsNoLess, IsNoLower, IsResumed}
 
 -- ---- a state
 
@@ -145,20 +145,57 @@ pub record AreRestored (state : StoredState) (now : ℕ) (parts : List KeyGroupP
 -- each group stands as one of that configuration, before its first turn where it did before; the state counts as stored, and nothing else changed.
 pub record HasRestored (bytes : List ℕ) (now : ℕ) (old new : Publisher) : Type 0 where
   pub state : StoredState
+  pub state_is : IsState state
   pub bytes_are : bytes ≡ written state
   pub fingerprint : state.fingerprint ≡ sha256 (identity_of old.config)
   pub senders : AreRestored state now old.config.keygroup old.senders.items new.senders.items
-  pub config : IsBegunConfig old.config new.config
-  pub opening : AreOpeningSides old.config old.sides.items → AreOpeningSides new.config new.sides.items
+  pub begun : HaveBegun state.words old new
   pub storing : new.storing ≡ record { reserve = 0; saved = Some state; stored = Some state }
   pub rest : new ≡ record old { config = new.config; senders = new.senders; sides = new.sides; storing = new.storing }
+
+-- why the key group with this index may not: the last of its key sets whose moment has come is of an earlier token, or a number would be used again
+pub record IsEarlierIn (state : StoredState) (now keygroup : ℕ) (sender : SenderState) : Type 0 where
+  pub set : KeySet
+  pub is : current sender.sets now ≡ Some set
+  pub earlier : set.token < token_in state keygroup
+
+pub record IsAgainIn (state : StoredState) (now keygroup : ℕ) (sender : SenderState) : Type 0 where
+  pub set : KeySet
+  pub is : current sender.sets now ≡ Some set
+  pub again : ¬ IsNoLower (sender.keys.token, sender.used) (set.token, used_in state keygroup set.token)
+
+abbrev pub IsFaultOf : StoredState → ℕ → ℕ → SenderState → RestoreFault → Type 0
+IsFaultOf state now keygroup sender faults.Damaged = ⊥
+IsFaultOf state now keygroup sender faults.OtherConfiguration = ⊥
+IsFaultOf state now keygroup sender faults.EarlierToken = IsEarlierIn state now keygroup sender
+IsFaultOf state now keygroup sender faults.NumbersAgain = IsAgainIn state now keygroup sender
+
+-- so it is of one of them
+pub record MayNotRestore (state : StoredState) (now : ℕ) (senders : List SenderState) (fault : RestoreFault) : Type 0 where
+  pub keygroup : ℕ
+  pub within : keygroup < length senders
+  pub is : HoldsAt (λ sender. IsFaultOf state now keygroup sender fault) senders keygroup
+
+-- the bytes are those of this state of the publisher's configuration
+pub record IsStateOf (bytes : List ℕ) (publisher : Publisher) (state : StoredState) : Type 0 where
+  pub bytes_are : bytes ≡ written state
+  pub fingerprint : state.fingerprint ≡ sha256 (identity_of publisher.config)
+
+-- bytes of another configuration's state
+pub record IsOfOther (bytes : List ℕ) (publisher : Publisher) : Type 0 where
+  pub state : StoredState
+  pub bytes_are : bytes ≡ written state
+  pub other : state.fingerprint ≢ sha256 (identity_of publisher.config)
+
+-- a key group may not go on after the state that the bytes are
+pub record IsRefusedState (bytes : List ℕ) (now : ℕ) (publisher : Publisher) (fault : RestoreFault) : Type 0 where
+  pub state : StoredState
+  pub is : IsStateOf bytes publisher state
+  pub may_not : MayNotRestore state now publisher.senders.items fault
 
 -- why bytes aren't gone on after
 abbrev pub IsNotRestored : List ℕ → ℕ → Publisher → RestoreFault → Type 0
 IsNotRestored bytes now publisher faults.Damaged = (state : StoredState) → IsState state → bytes ≢ written state
-IsNotRestored bytes now publisher faults.OtherConfiguration =
-    (state : StoredState) → IsState state → bytes ≡ written state → state.fingerprint ≢ sha256 (identity_of publisher.config)
-IsNotRestored bytes now publisher faults.EarlierToken =
-    (state : StoredState) → IsState state → bytes ≡ written state → ¬ MayRestoreEach state now publisher.senders.items
-IsNotRestored bytes now publisher faults.NumbersAgain =
-    (state : StoredState) → IsState state → bytes ≡ written state → ¬ MayRestoreEach state now publisher.senders.items
+IsNotRestored bytes now publisher faults.OtherConfiguration = IsOfOther bytes publisher
+IsNotRestored bytes now publisher faults.EarlierToken = IsRefusedState bytes now publisher faults.EarlierToken
+IsNotRestored bytes now publisher faults.NumbersAgain = IsRefusedState bytes now publisher faults.NumbersAgain
