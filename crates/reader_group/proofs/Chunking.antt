@@ -89,6 +89,6 @@ pub read-chunked : (seat : Seat) (receipt : Receipt) (member : MemberValue) (chu
     → FollowsLaid seat receipt member (chunk_case member.joining (numbered chunk)) new outcome → FollowsChunk seat receipt member read new outcome
 read-chunked seat receipt member chunk read new outcome is h = subst (λ (r : Result Chunk ChunkFault). FollowsChunk seat receipt member r new outcome) is h
 
-pub unread-chunk : (seat : Seat) (receipt : Receipt) (member : MemberValue) (fault : ChunkFault) (read : Result Chunk ChunkFault) (old : Member) → Err fault ≡ read
-    → IsMemberOf seat member old → FollowsChunk seat receipt member read old (bad_part (faults.Chunk fault))
-unread-chunk seat receipt member fault read old is h = subst (λ (r : Result Chunk ChunkFault). FollowsChunk seat receipt member r old (bad_part (faults.Chunk fault))) is (h, refl)
+pub unread-chunk : (seat : Seat) (receipt : Receipt) (member : MemberValue) (fault : ChunkFault) (read : Result Chunk ChunkFault) (old : Member) (outcome : PartOutcome) → Err fault ≡ read → outcome ≡ bad_part (faults.Chunk fault)
+    → IsMemberOf seat member old → FollowsChunk seat receipt member read old outcome
+unread-chunk seat receipt member fault read old outcome is bad h = subst (λ (r : Result Chunk ChunkFault). FollowsChunk seat receipt member r old outcome) is (h, bad)

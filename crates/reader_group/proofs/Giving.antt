@@ -78,6 +78,6 @@ pub read_follows : (seat : Seat) (receipt : Receipt) (member : MemberValue) (fra
 read_follows seat receipt member frame bytes read new outcome is h = subst (λ (r : Result Frame FrameFault). FollowsRead seat receipt member bytes r new outcome) (sym is) h
 
 -- a frame that can't be read leaves the reader as it is
-pub refused_follows : (seat : Seat) (receipt : Receipt) (member : MemberValue) (fault : FrameFault) (bytes : List ℕ) (read : Result Frame FrameFault) (new : Member) → read ≡ Err fault
-    → IsMemberOf seat member new → FollowsRead seat receipt member bytes read new (bad_frame seat.meta bytes fault)
-refused_follows seat receipt member fault bytes read new is h = subst (λ (r : Result Frame FrameFault). FollowsRead seat receipt member bytes r new (bad_frame seat.meta bytes fault)) (sym is) (h, refl)
+pub refused_follows : (seat : Seat) (receipt : Receipt) (member : MemberValue) (fault : FrameFault) (bytes : List ℕ) (read : Result Frame FrameFault) (new : Member) (outcome : PartOutcome) → read ≡ Err fault
+    → IsMemberOf seat member new → outcome ≡ bad_frame seat.meta bytes fault → FollowsRead seat receipt member bytes read new outcome
+refused_follows seat receipt member fault bytes read new outcome is h bad = subst (λ (r : Result Frame FrameFault). FollowsRead seat receipt member bytes r new outcome) (sym is) (h, bad)

@@ -8,7 +8,7 @@ use Rattle.std.proofs.lemmas.List.Elements.{All-contains, Contains-get_or}
 use Rattle.dataset_meta.specs.Metas.{MetaData}
 use Rattle.group_keys.specs.declared.key_set.KeySet.{KeySet}
 use Rattle.message_guard.specs.declared.keys.TokenKeys.{TokenKeys}
-use Rattle.message_guard.specs.Guards.{Setup}
+use Rattle.message_guard.specs.Guards.{Setup, IsGuardOf, setup_of}
 use Rattle.message_guard.specs.Protection.{keys_in}
 use Rattle.ps_config.specs.declared.parts.Config.{Config}
 use Rattle.ps_config.specs.declared.parts.KeyPart.{KeyPart}
@@ -18,12 +18,13 @@ use Rattle.ps_config.specs.declared.parts.ReaderPart.{ReaderPart}
 use Rattle.ps_config.specs.Rings.{key_set}
 use Rattle.ps_config.specs.Sound.{IsSound, IsReadGroup}
 use Rattle.message_guard.specs.declared.mode.Mode.{Mode}
+use Rattle.reader_group.specs.declared.group.ReaderGroup.{ReaderGroup}
 use Rattle.reader_group.specs.declared.member.Member.{Member}
 use Rattle.reader_group.specs.Members.{Seat, seat_of, seat_at, no_seat, MemberValue, new_member}
 use Rattle.reader_group.specs.MemberWords.{HoldsRowsOf, IsMemberOf}
-use Rattle.reader_group.specs.Groups.{AreMembers, AreReaders}
+use Rattle.reader_group.specs.Groups.{AreMembers, AreReaders, AreNew as AreAllNew, Stands, guard_of, members_of, pair_of}
 use Rattle.ps_config.specs.Headers.{mode_of}
-use Rattle.reader_group.specs.Plain.{opening}
+use Rattle.reader_group.specs.Plain.{Setting, opening}
 use Rattle.reader_group.proofs.Seats.{seats-length}
 use Rattle.reader_group.specs.Settings.{no_group, group_at, no_keygroup, keygroup_at, token_keys, setup_by, seat_in, setting_by, setting_of}
 
@@ -127,3 +128,10 @@ keygroup_there config group index sound has is =
 
 pub part_contained : (config : Config) (index : ℕ) (part : ReadGroupPart) → index < length config.readgroup → part ≡ get_or config.readgroup index part → Contains config.readgroup part
 part_contained config index part within is = subst (Contains config.readgroup) (sym is) (Contains-get_or config.readgroup index part within)
+
+-- a group that nothing befell
+pub opening-stands : (config : Config) (index : ℕ) (part : ReadGroupPart) (group : ReaderGroup) → index < length config.readgroup → part ≡ get_or config.readgroup index part
+    → setup_of (guard_of group) ≡ setup_by config part part.keygroup → IsGuardOf [] (guard_of group) → pair_of group ≡ None → AreAllNew part (members_of group)
+    → Stands (setting_of config index) (opening (setting_of config index)) group
+opening-stands config index part group within is setup guard pair members =
+    subst (λ (s : Setting). Stands s (opening s) group) (sym (setting-at config index part within is)) (record { setup = setup; guard = guard; pair = pair; members = members config })

@@ -1,5 +1,5 @@
 -- A read group that rings renew.
-use Rattle.std.proofs.Common.{◌≡◌, ◌≢◌, ℕ, Bool, true, false, refl, sym, ap, ◌∙◌, subst, List, [], ◌∷◌, map}
+use Rattle.std.proofs.Common.{◌≡◌, ◌≢◌, ℕ, Bool, true, refl, sym, ap, ◌∙◌, subst, List, [], ◌∷◌, map}
 use Rattle.std.specs.Prelude.{AllPairs, Result, Ok, Err}
 use Rattle.message_guard.specs.declared.keys.TokenKeys.{TokenKeys}
 use Rattle.message_guard.specs.declared.mode.Mode.{Mode}
@@ -11,7 +11,7 @@ use Rattle.message_guard.specs.Opening.{accepts}
 use Rattle.message_guard.proofs.Once.{called_once}
 use Rattle.reader_group.specs.declared.refusal.Refusal.{Refusal}
 use Rattle.reader_group.specs.Opening.{Opened}
-use Rattle.reader_group.specs.Plain.{Setting, PlainGroup, Event, Got, Expired, Stopped, plain, step, taken_on, verdict_in, with_keys}
+use Rattle.reader_group.specs.Plain.{Setting, PlainGroup, Event, Got, Expired, Stopped, plain, step, taken_on, verdict_in}
 use Rattle.reader_group.specs.Renewing.{GroupCall, Befalls, Renews, IsPlain, TakesNoPairTwice, reading, setting_after}
 use Rattle.reader_group.proofs.Stretches.{verdict-acceptable}
 

@@ -1,11 +1,9 @@
 -- A datagram that is refused for its header alone.
-use Rattle.std.proofs.Common.{◌≡◌, ℕ, Bool, true, false, ◌&&◌, List, length, get_or, drop, refl, sym, ap, subst, ◌∙◌, Option, Some, None}
+use Rattle.std.proofs.Common.{◌≡◌, ℕ, Bool, true, false, ◌&&◌, List, get_or, refl, sym, ap, subst, ◌∙◌, Some, None}
 use Rattle.std.specs.Prelude.{Result, Ok, Err, if◌then◌else◌}
 use Rattle.uadp_header.specs.declared.fault.HeaderFault.{HeaderFault}
-use Rattle.uadp_header.specs.declared.header.Header.{Header}
 use Rattle.uadp_header.specs.Headers.{HeaderValue}
 use Rattle.uadp_header.specs.Layout.{header_at}
-use Rattle.message_guard.specs.declared.keys.TokenKeys.{TokenKeys}
 use Rattle.message_guard.specs.Acceptance.{Accepted}
 use Rattle.message_guard.specs.Guards.{IsGuardOf, Setup, setup_of}
 use Rattle.ps_config.specs.declared.parts.Config.{Config}
@@ -13,12 +11,11 @@ use Rattle.ps_config.specs.declared.parts.ReadGroupPart.{ReadGroupPart}
 use Rattle.reader_group.specs.declared.group.ReaderGroup.{ReaderGroup}
 use Rattle.reader_group.specs.declared.refusal.Refusal.{Refusal}
 use Rattle.reader_group.specs.declared.refusal.Refusal.TheVariants as refusals
-use Rattle.reader_group.specs.Asked.{IsNotOurs}
 use Rattle.reader_group.specs.Filter.{is_any_or, is_of_number, is_ours}
-use Rattle.reader_group.specs.Groups.{AreMembers, HadDatagram, HadIf, IsMadeOf, PassedDatagram, Stands, guard_of, index_of, members_of, notices_of, setting_with}
+use Rattle.reader_group.specs.Groups.{AreMembers, HadDatagram, HadIf, IsMadeOf, PassedDatagram, Stands, guard_of, index_of, members_of, notices_of, pair_of}
 use Rattle.reader_group.specs.Notices.{notice_at, noticed_on}
 use Rattle.reader_group.specs.Opening.{Opened, bytes_left, left_read, refusal_read, verdict, verdict_of}
-use Rattle.reader_group.specs.Plain.{Got, PlainGroup, Setting, answer, answer_on, step, taken_on, verdict_in, with_keys}
+use Rattle.reader_group.specs.Plain.{Got, Setting, answer, answer_on, step, taken_on, verdict_in, with_keys}
 use Rattle.reader_group.specs.Settings.{setting_by}
 use Rattle.reader_group.proofs.Asked.{not-ours}
 use Rattle.reader_group.proofs.Steps.{at_part, stands_part}
@@ -26,6 +23,7 @@ use Rattle.reader_group.proofs.Steps.{at_part, stands_part}
 -- the group is the same but for what it tells of refusals
 pub record IsSameGroup (old new : ReaderGroup) : Type 0 where
   pub guard : guard_of new ≡ guard_of old
+  pub pair : pair_of new ≡ pair_of old
   pub members : members_of new ≡ members_of old
   pub notices : notices_of new ≡ notices_of old
 
@@ -41,6 +39,7 @@ had-refused config old new part datagram refusal made is same refused left now o
       let after : Stands own plain new = record {
         setup = subst (λ g. setup_of g ≡ own.setup) (sym same.guard) before.setup;
         guard = subst (λ g. IsGuardOf plain.accepted g) (sym same.guard) before.guard;
+        pair = same.pair ∙ before.pair;
         members = subst (λ l. AreMembers own.seats plain.members l) (sym same.members) before.members;
       } in
       subst (λ (s : Setting). Stands s (step s plain (Got now on datagram)) new) (sym (at_part config old part keys made is))
@@ -92,4 +91,4 @@ had-unread config old new part number datagram refusal (Ok read) made is same at
         subst (λ (r : Refusal). HadDatagram config old new now on datagram datagram (Err r)) (some-is refusals.NotOurs refusal so) (others is_so)
     by_tests false ours is_so so =
         subst (λ (r : Refusal). PassedDatagram old new datagram datagram (Err r)) (some-is refusals.NotOurs refusal so)
-        (record { answer = refl; guard = same.guard; members = same.members; notices = same.notices; bytes_stay = refl })
+        (record { answer = refl; guard = same.guard; pair = same.pair; members = same.members; notices = same.notices; bytes_stay = refl })

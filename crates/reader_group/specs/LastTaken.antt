@@ -1,5 +1,5 @@
 -- The token and the number of the last datagram that a read group accepted under a security header.
-use Rattle.std.specs.Prelude.{List, [], ◌∷◌, Option, Some, None, if◌then◌else◌}
+use Rattle.std.specs.Prelude.{[], ◌∷◌, Option, Some, None, if◌then◌else◌}
 use Rattle.message_guard.specs.declared.mode.Mode.{Mode}
 use Rattle.message_guard.specs.declared.pass.Pass1.{Pass1}
 use Rattle.message_guard.specs.Acceptance.{Accepted}

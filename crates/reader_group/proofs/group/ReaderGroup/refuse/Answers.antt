@@ -9,6 +9,6 @@ returns-clause-refused c =
     record {
       had = λ now on.
           had-unread c.args.config.now c.args.self.now _ c.part_at-part.result.now c.args.number bytes c.in-Some.refusal (header_at bytes) c.requires.made c.part_at-part.ensures
-          (record { guard = refl; members = refl; notices = refl }) refl (sym (c.refusal_of.ensures bytes c.requires.read) ∙ c.in-Some.is) now on;
+          (record { guard = refl; pair = refl; members = refl; notices = refl }) refl (sym (c.refusal_of.ensures bytes c.requires.read) ∙ c.in-Some.is) now on;
       kept = c.note_read.ensures bytes c.requires.read;
     }

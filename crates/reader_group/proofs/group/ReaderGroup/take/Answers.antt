@@ -56,7 +56,7 @@ returns-clause-step c = λ keys plain h.
     let count = c.feed_all-tally.ensures.readers.count ∙ sym (made_readers c.args.config.now old part c.requires.made c.part_at-part.ensures).count in
     taken_step c.args.config.now old _ c.accept-raised.new.self members part keys plain c.args.now c.args.on.now c.args.bytes.now c.open.new.bytes c.in_ok-begun.begun c.open.new.room
     c.accept-raised.result (receipt_with c.args.now c.stamp_of.result) (payload_in c.payload_held-payload.result) c.feed_all-tally.result c.requires.made c.part_at-part.ensures
-    (taken c keys plain h) refl (c.pair_on.ensures ∙ ap (pair_on (mode_of part.security) c.in_ok-begun.begun.pass) h.pair) (with_items_is old.members members (count ∙ sym old.members.ok.0))
+    (taken c keys plain h) refl (c.pair_on-self.ensures ∙ ap (pair_on (mode_of part.security) c.in_ok-begun.begun.pass) h.pair) (with_items_is old.members members (count ∙ sym old.members.ok.0))
 
 pub returns-clause-answer : goal.returns-clause-answer
 returns-clause-answer c = λ keys plain h.

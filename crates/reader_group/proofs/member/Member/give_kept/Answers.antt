@@ -1,4 +1,4 @@
-use Rattle.std.proofs.Common.{sym, subst}
+use Rattle.std.proofs.Common.{refl, sym, subst}
 use Rattle.frame_codec.specs.declared.frame.Frame.{Frame}
 use Rattle.frame_codec.specs.Words.{IsFrameOf}
 use Rattle.dataset_reader.specs.declared.reader.Reader.{Reader}
@@ -13,7 +13,7 @@ returns-clause-member c = λ part member h.
     let took = c.frame-took in (
       given_is seat c.args.receipt.now member c.args.self.now.frame c.args.self.now took.new.self c.note.new.self took.result c.carries_short.ensures h
           took.ensures.kept took.ensures.took (λ value is. c.note.ensures.member seat value is) took.ensures.passed took.ensures.numbering,
-      outcome_is seat c.args.receipt.now member c.args.self.now.frame c.args.self.now took.result c.of.result c.carries_short.ensures h took.ensures.took c.of.ensures,
+      outcome_is seat c.args.receipt.now member c.args.self.now.frame c.args.self.now took.result _ c.carries_short.ensures h took.ensures.took refl,
     )
 
 pub returns-clause-reader : goal.returns-clause-reader

@@ -16,4 +16,4 @@ pub returns-in-Err-clause-case : goal.returns-in-Err-clause-case
 returns-in-Err-clause-case c = λ part member h.
     let meta = c.args.meta.now in
     let seat = seat_of part meta in
-    refused_follows seat c.args.receipt.now member _ c.args.bytes.now (frame_at meta c.args.bytes.now) c.read.new.self (sym c.in-Err.ensures.answer) (c.in-Err.ensures.member seat member h)
+    refused_follows seat c.args.receipt.now member _ c.args.bytes.now (frame_at meta c.args.bytes.now) c.read.new.self _ (sym c.in-Err.ensures.answer) (c.in-Err.ensures.member seat member h) c.bad_frame.ensures

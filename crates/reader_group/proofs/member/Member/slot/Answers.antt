@@ -29,4 +29,4 @@ returns-in-Err-clause-case c = λ member h.
     let meta = c.args.meta.now in
     let seat = seat_of c.args.part.now meta in
     subst (FollowsSlot seat c.args.receipt.now member c.read_slot.new.self _) c.in-Some.ensures
-    (refused_follows seat c.args.receipt.now member _ c.in-Some.bytes.now (slot_frame_at meta c.in-Some.bytes.now) c.read_slot.new.self (sym c.in-Err.ensures.answer) (c.in-Err.ensures.member seat member h))
+    (refused_follows seat c.args.receipt.now member _ c.in-Some.bytes.now (slot_frame_at meta c.in-Some.bytes.now) c.read_slot.new.self _ (sym c.in-Err.ensures.answer) (c.in-Err.ensures.member seat member h) c.bad_frame.ensures)
