@@ -72,7 +72,7 @@ impl Counts {
 }
 
 /// The word of a cause, as reports have it.
-fn cause_of(refusal: &Refusal) -> &'static str {
+pub fn cause_of(refusal: &Refusal) -> &'static str {
     match refusal {
         Refusal::Header(fault) => header_cause(*fault),
         Refusal::NotOurs => "NotOurs",

@@ -6,14 +6,15 @@ ghost use Rattle.reader_group.specs.Settings.{group_at, seat_in, setting_of};
 ghost use Rattle.writer_group.specs.Standing.{IsGood};
 ghost use Rattle.example_subscriber.specs.Listeners.{IsListener, readers_of};
 
-use crate::causes::Counts;
+use crate::causes::{Counts, cause_of};
 use crate::live::{DRAWING, put_begin, put_clear, put_end};
 use crate::news::{Head, Standing, Told};
+use crate::untaken::put_refusal;
 use dataset_meta::Meta;
 use example_parts::Fault;
 use group_keys::Ring;
 use ps_config::{Config, MOST_READERS, ReadGroupPart, ReaderPart};
-use ps_report::{put_feed, put_named};
+use ps_report::{put, put_feed, put_named};
 use reader_group::{ReaderGroup, Refusal, Taken};
 use std::alloc::Global;
 use std::io;
@@ -27,6 +28,9 @@ pub struct Listener<'c> {
     on: Vec<bool>,
     told: Vec<Told>,
     counts: Counts,
+    /// Why the last datagram that was refused was, and whether that is still to be told.
+    cause: &'static str,
+    is_untold: bool,
     view: View,
     /// Lines before they are printed.
     lines: Vec<u8>,
@@ -55,6 +59,8 @@ impl<'c> Listener<'c> {
             on: vec![in alloc; true; count]?,
             told: vec![in alloc; Told::NOTHING; count]?,
             counts: Counts::new(alloc),
+            cause: "",
+            is_untold: false,
             view,
             lines: Vec::new(alloc),
         })
@@ -81,6 +87,13 @@ impl<'c> Listener<'c> {
         requires { IsListener self.old }
         ensures { IsListener self.new }
     {
+        if let Err(refusal) = answer {
+            let cause = cause_of(refusal);
+            if self.cause != cause {
+                self.cause = cause;
+                self.is_untold = true;
+            }
+        }
         self.counts.note(answer)
     }
 
@@ -111,10 +124,39 @@ impl<'c> Listener<'c> {
     {
         self.lines.clear();
         match self.view {
-            View::News => self.look_all(now, false)?,
+            View::News => {
+                self.put_cause(now)?;
+                self.look_all(now, false)?;
+            }
             View::Live { next, drawn } => self.put_view(now, next, drawn)?,
         }
         print_all(rt, &self.lines)
+    }
+
+    /// A line where a datagram was refused for another cause than the last before it.
+    fn put_cause(&mut self, now: u64) -> Result<(), Fault>
+        requires { IsListener self.old }
+        ensures { IsListener self.new }
+    {
+        if !self.is_untold {
+            return Ok(());
+        }
+        self.is_untold = false;
+        put_named(&mut self.lines, b"", now)?;
+        put(&mut self.lines, b": refuses ")?;
+        self.put_last()?;
+        Ok(put_feed(&mut self.lines)?)
+    }
+
+    /// Why the last datagram that was refused was, and whose it was, if there was one.
+    fn put_last(&mut self) -> Result<(), Fault>
+        requires { IsListener self.old }
+        ensures { IsListener self.new }
+    {
+        match &self.group.refused().last {
+            Some(last) => put_refusal(&mut self.lines, last),
+            None => Ok(()),
+        }
     }
 
     /// Lines in place of those that were drawn, where their moment has come.
@@ -133,6 +175,10 @@ impl<'c> Listener<'c> {
         self.look_all(now, true)?;
         put_clear(&mut self.lines)?;
         self.counts.put(&mut self.lines)?;
+        if !self.cause.is_empty() {
+            put(&mut self.lines, b", last ")?;
+            self.put_last()?;
+        }
         put_feed(&mut self.lines)?;
         put_end(&mut self.lines)
     }
@@ -160,24 +206,28 @@ impl<'c> Listener<'c> {
         let meta = meta_of(self.config, part);
         let name = part.name.as_bytes();
         let reader = self.group.reader(index);
+        let notice = self.group.notice(index);
         let standing = Standing {
             is_ready: self.group.is_ready(index),
             is_late: self.group.is_late(index),
+            is_fresh: self.group.is_fresh(index, now, bound_of(part)),
         };
         let told = &mut self.told[usize::from(index)];
         match self.view {
             View::News => {
                 let head = Head { moment: now, name };
-                told.put_news(&mut self.lines, &head, meta, reader, standing.is_ready)
+                let line = &mut self.lines;
+                told.put_news(line, &head, meta, reader, &notice, standing.is_fresh)
             }
             View::Live { .. } => {
-                told.mark.note(now, reader);
+                told.untaken.look(&notice, reader.passed());
+                told.mark.note(now, reader, &notice);
                 if !draws {
                     return Ok(());
                 }
                 put_clear(&mut self.lines)?;
                 let line = &mut self.lines;
-                told.mark.put_line(line, now, name, meta, reader, standing)?;
+                told.put_line(line, now, name, meta, reader, standing)?;
                 Ok(put_feed(line)?)
             }
         }
@@ -207,6 +257,15 @@ fn print_all<R: Print>(rt: &R, lines: &[u8]) -> Result<(), Fault> {
         Ok(())
     } else {
         Err(Fault::Unwritten)
+    }
+}
+
+/// How old the row of a reader may be where it is used, in milliseconds: as old as its timeout lets a message be.
+fn bound_of(part: &ReaderPart) -> u64 {
+    if part.timeout == 0 {
+        u64::MAX
+    } else {
+        part.timeout
     }
 }
 

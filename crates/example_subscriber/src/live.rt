@@ -3,10 +3,12 @@ ghost use Rattle.std.specs.Prelude.{◌≡◌};
 ghost use Rattle.dataset_reader.specs.Reader.{IsReaderOf};
 
 use crate::news::Standing;
+use crate::untaken::Untaken;
 use dataset_meta::Meta;
 use dataset_reader::Reader;
 use example_parts::Fault;
 use ps_report::{put, put_named, put_row, put_waits};
+use reader_group::Notice;
 
 /// How often lines are written, in milliseconds.
 pub const DRAWING: u64 = 100;
@@ -19,7 +21,7 @@ const SECOND: u64 = 1000;
 pub struct Mark {
     number: Option<u16>,
     breaks: u64,
-    /// When the last one came.
+    /// When the last one was taken.
     seen: u64,
     /// How many messages its numbers say are missing.
     lost: u64,
@@ -43,16 +45,14 @@ impl Mark {
     };
 
     /// A look behind a datagram or a wait.
-    pub fn note(&mut self, now: u64, reader: &Reader) {
+    pub fn note(&mut self, now: u64, reader: &Reader, notice: &Notice) {
         let number = reader.number();
         let breaks = reader.breaks();
-        if breaks != self.breaks {
-            self.lost = self.lost.saturating_add(missing(reader));
-        }
         if breaks != self.breaks || number != self.number && number.is_some() {
-            self.seen = now;
             self.messages = self.messages.saturating_add(1);
         }
+        self.seen = notice.seen.unwrap_or(0);
+        self.lost = notice.lost;
         self.number = number;
         self.breaks = breaks;
         if now.saturating_sub(self.since) >= SECOND {
@@ -63,7 +63,8 @@ impl Mark {
     }
 
     /// The line of a reader: its state, the number of the message that it holds, the version of its data set (OPC 10000-14 5.2.3), how
-    /// old its last message is, how many come in a second and how many were lost, and the row or why it waits.
+    /// old its last message is, how many come in a second and how many were lost, why the last that wasn't taken wasn't, and the row or
+    /// why it waits.
     pub fn put_line(
         &self,
         out: &mut Vec<u8>,
@@ -72,6 +73,7 @@ impl Mark {
         meta: &Meta,
         reader: &Reader,
         standing: Standing,
+        untaken: &Untaken,
     ) -> Result<(), Fault>
         requires { IsReaderOf meta.now reader.now }
     {
@@ -79,6 +81,11 @@ impl Mark {
         put(out, b" ")?;
         put(out, state_of(standing))?;
         self.put_counts(out, now, meta)?;
+        if untaken.is_some() {
+            put(out, b",")?;
+            untaken.put(out)?;
+        }
+        put(out, b":")?;
         match reader.row() {
             Some(row) => put_row(out, meta, row)?,
             None => put_waits(out, reader.why())?,
@@ -96,16 +103,7 @@ impl Mark {
         put_named(out, b" age ", now.saturating_sub(self.seen))?;
         put_named(out, b" ms, ", self.rate)?;
         put_named(out, b" a second, lost ", self.lost)?;
-        put(out, b":")?;
         Ok(())
-    }
-}
-
-/// How many numbers lie between the one that was due and the one that came, where the run broke last.
-fn missing(reader: &Reader) -> u64 {
-    match reader.recent().last() {
-        Some(last) => u64::from(last.got.wrapping_sub(last.expected)),
-        None => 0,
     }
 }
 

@@ -1,6 +1,7 @@
 //! A subscriber that goes on: it takes what comes over a link, and prints a line whenever a reader holds another row, begins to wait
-//! or recovers, and whenever what hangs on its values goes to its safe state or leaves it. Where a datagram has a token that it
-//! doesn't know, it reads its keys anew. On a terminal it may show the same lines again and again in place.
+//! or recovers, whenever what hangs on its values goes to its safe state or leaves it, and whenever a datagram or a message isn't taken
+//! for another cause than before. Where a datagram has a token that it doesn't know, it reads its keys anew. On a terminal it may show
+//! the same lines again and again in place.
 #![tactic(auto)]
 
 mod causes;
@@ -9,6 +10,7 @@ mod listener;
 mod listening;
 mod live;
 mod news;
+mod untaken;
 
 use crate::key_file::KeyFile;
 use crate::listener::{View, unwritten};

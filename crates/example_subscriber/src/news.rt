@@ -4,19 +4,22 @@ ghost use Rattle.row_words.specs.Belonging.{Belongs};
 ghost use Rattle.dataset_reader.specs.Reader.{IsReaderOf};
 
 use crate::live::Mark;
+use crate::untaken::Untaken;
 use dataset_meta::Meta;
 use dataset_reader::Reader;
 use example_parts::Fault;
 use ps_report::{put, put_feed, put_named, put_row, put_waits};
 use pubsub_model::Why;
+use reader_group::Notice;
 use row_words::Row;
 
-/// Whether a reader is ready (it held a row, and no timeout has come since), and whether it is late (its timeout came, and no message
-/// since).
+/// Whether a reader is ready (it held a row, and no timeout has come since), whether it is late (its timeout came, and no message
+/// since), and whether its row may be used (it holds one that was confirmed a short time ago).
 #[derive(Clone, Copy)]
 pub struct Standing {
     pub is_ready: bool,
     pub is_late: bool,
+    pub is_fresh: bool,
 }
 
 /// What was told of a reader last: what it holds or why it waits, since when it waits, and whether what hangs on its values is in its
@@ -26,6 +29,8 @@ pub struct Told {
     held: Held,
     since: u64,
     is_safe: bool,
+    /// What wasn't taken.
+    pub untaken: Untaken,
     /// For the live view.
     pub mark: Mark,
 }
@@ -59,6 +64,7 @@ impl Told {
         held: Held::Untold,
         since: 0,
         is_safe: true,
+        untaken: Untaken::NOTHING,
         mark: Mark::NOTHING,
     };
 
@@ -80,23 +86,29 @@ impl Told {
         matches!(self.held, Held::Waits(_))
     }
 
-    /// Puts a line for each thing that is new: that the reader waits, and why; that it recovered, and after how long; another row;
-    /// and the way of what hangs on it to its safe state or back.
+    /// Puts a line for each thing that is new: why a message wasn't taken; that the reader waits, and why; that it recovered, and after
+    /// how long; another row; and the way of what hangs on it to its safe state or back.
     pub fn put_news(
         &mut self,
         out: &mut Vec<u8>,
         head: &Head<'_>,
         meta: &Meta,
         reader: &Reader,
-        is_ready: bool,
+        notice: &Notice,
+        is_fresh: bool,
     ) -> Result<(), Fault>
         requires { IsReaderOf meta.now reader.now }
     {
+        if self.untaken.look(notice, reader.passed()) {
+            head.put(out)?;
+            self.untaken.put(out)?;
+            put_feed(out)?;
+        }
         match reader.row() {
             None => self.put_wait(out, head, reader)?,
             Some(row) => self.put_hold(out, head, meta, row)?,
         }
-        self.put_safety(out, head, is_ready)
+        self.put_safety(out, head, is_fresh)
     }
 
     fn put_wait(
@@ -149,19 +161,36 @@ impl Told {
         Ok(())
     }
 
-    /// What hangs on the values of a reader runs while it is ready: it held a row, and no timeout has come since.
+    /// The line of the live view.
+    pub fn put_line(
+        &self,
+        out: &mut Vec<u8>,
+        now: u64,
+        name: &[u8],
+        meta: &Meta,
+        reader: &Reader,
+        standing: Standing,
+    ) -> Result<(), Fault>
+        requires { IsReaderOf meta.now reader.now }
+    {
+        let untaken = &self.untaken;
+        self.mark.put_line(out, now, name, meta, reader, standing, untaken)
+    }
+
+    /// What hangs on the values of a reader runs while its row is fresh: one is held that was confirmed a short time ago. A timeout alone
+    /// doesn't tell that, since messages after one that is lost begin it anew.
     fn put_safety(
         &mut self,
         out: &mut Vec<u8>,
         head: &Head<'_>,
-        is_ready: bool,
+        is_fresh: bool,
     ) -> Result<(), Fault> {
-        if self.is_safe != is_ready {
+        if self.is_safe != is_fresh {
             return Ok(());
         }
-        self.is_safe = !is_ready;
+        self.is_safe = !is_fresh;
         head.put(out)?;
-        put(out, if is_ready { b" runs" } else { b" is safe" })?;
+        put(out, if is_fresh { b" runs" } else { b" is safe" })?;
         put_feed(out)?;
         Ok(())
     }
