@@ -16,6 +16,7 @@ use stored_state::StoredState;
 
 /// How many groups a configuration has at most, and how many writers.
 const MOST_GROUPS: u8 = 4;
+
 const MOST_WRITERS: u8 = 16;
 
 impl Publisher {

@@ -22,8 +22,8 @@ mod words;
 
 pub use asked::{Next, NoValue};
 pub use laws::{
-    a_restored_life_gives_no_number_again, a_token_and_number_is_given_once, each_datagram_of_a_turn_is_given_its_number,
-    no_sender_falls_back,
+    a_restored_life_gives_no_number_again, a_token_and_number_is_given_once,
+    each_datagram_of_a_turn_is_given_its_number, no_sender_falls_back,
 };
 pub use listening::Listening;
 pub use publisher::Publisher;

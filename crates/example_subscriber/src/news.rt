@@ -174,7 +174,8 @@ impl Told {
         requires { IsReaderOf meta.now reader.now }
     {
         let untaken = &self.untaken;
-        self.mark.put_line(out, now, name, meta, reader, standing, untaken)
+        self.mark
+            .put_line(out, now, name, meta, reader, standing, untaken)
     }
 
     /// What hangs on the values of a reader runs while its row is fresh: one is held that was confirmed a short time ago. A timeout alone
