@@ -69,6 +69,11 @@ impl Told {
         self.lacks_memory |= write!(self.text, "{mark}0x{status:08x}").is_err();
     }
 
+    /// A number in hexadecimal digits behind a mark.
+    pub fn hex(&mut self, mark: &str, number: u64) {
+        self.lacks_memory |= write!(self.text, "{mark}{number:x}").is_err();
+    }
+
     /// What follows is apart from what stands before it, if anything does.
     pub fn apart(&mut self, mark: &str) {
         if !self.is_empty() {
