@@ -7,6 +7,7 @@ use std::fmt::{self, Write};
 /// A text, made piece by piece. Where memory ran out for one of them, there is no answer.
 #[derive(Drop)]
 pub struct Told {
+    alloc: Global,
     text: String,
     lacks_memory: bool,
 }
@@ -14,9 +15,15 @@ pub struct Told {
 impl Told {
     pub fn new(alloc: Global) -> Told {
         Told {
+            alloc,
             text: String::new(alloc),
             lacks_memory: false,
         }
+    }
+
+    /// Where its memory comes from.
+    pub fn alloc(&self) -> Global {
+        self.alloc
     }
 
     pub fn is_empty(&self) -> bool {
@@ -33,13 +40,14 @@ impl Told {
 
     /// A pattern, in which each `#` stands for the next of the numbers.
     pub fn fill(&mut self, pattern: &str, numbers: &[u64]) {
-        let mut at = 0_usize;
+        // where the number before a piece stands: none is before the first
+        let mut place = usize::MAX;
         for piece in pattern.split('#') {
-            self.say(piece);
-            if let Some(number) = numbers.get(at) {
+            if let Some(number) = numbers.get(place) {
                 self.show(number);
             }
-            at = at.saturating_add(1);
+            self.say(piece);
+            place = place.wrapping_add(1);
         }
     }
 
@@ -67,6 +75,11 @@ impl Told {
     /// A status behind a mark.
     pub fn status(&mut self, mark: &str, status: u32) {
         self.lacks_memory |= write!(self.text, "{mark}0x{status:08x}").is_err();
+    }
+
+    /// A number in hexadecimal digits behind a mark.
+    pub fn hex(&mut self, mark: &str, number: u64) {
+        self.lacks_memory |= write!(self.text, "{mark}{number:x}").is_err();
     }
 
     /// What follows is apart from what stands before it, if anything does.

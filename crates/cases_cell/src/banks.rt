@@ -4,7 +4,7 @@ ghost use Rattle.version_cell.specs.Sets.{cell_at, ArePassesOf};
 
 use crate::fields::{DataSets, patch_of};
 use crate::shown::{Answered, done, given, seen, text, tried, version, written};
-use case_lines::{Line, LineFault};
+use case_lines::{Answer, CaseLine, LineFault};
 use cell_bank::Bank;
 use dataset_meta::Meta;
 use std::alloc::Global;
@@ -54,8 +54,8 @@ impl BankCase {
         rt: &R,
         alloc: Global,
         call: &str,
-        line: &mut Line,
-    ) -> Result<String, LineFault> {
+        line: &mut CaseLine,
+    ) -> Answer {
         let place = self.place(line)?;
         match call {
             "split" => self.split(alloc, place),
@@ -65,10 +65,10 @@ impl BankCase {
     }
 
     /// The place of a set of passes.
-    fn place(&self, line: &mut Line) -> Result<usize, LineFault>
+    fn place(&self, line: &mut CaseLine) -> Result<usize, LineFault>
         ensures { IfOk result (λ place. place < length self.now.hands) }
     {
-        let place = usize::from(line.u8()?);
+        let place = usize::from(line.u8());
         if place >= self.hands.len() {
             return Err(LineFault::Condition);
         }
@@ -82,11 +82,11 @@ impl BankCase {
         alloc: Global,
         call: &str,
         place: usize,
-        line: &mut Line,
-    ) -> Result<String, LineFault>
+        line: &mut CaseLine,
+    ) -> Answer
         requires { place < length self.old.hands }
     {
-        let set = line.u8()?;
+        let set = line.u8();
         if usize::from(set) >= self.metas.len() {
             return Err(LineFault::Condition);
         }
@@ -97,7 +97,7 @@ impl BankCase {
     }
 
     /// `split HAND`: the place of the new set of passes
-    fn split(&mut self, alloc: Global, place: usize) -> Result<String, LineFault>
+    fn split(&mut self, alloc: Global, place: usize) -> Answer
         requires { place < length self.old.hands }
     {
         let passes = &mut self.hands[place];
@@ -110,7 +110,7 @@ impl BankCase {
     }
 
     /// `join HAND`: takes in the last set of passes
-    fn join<R: Wait>(&mut self, rt: &R, alloc: Global, place: usize) -> Result<String, LineFault> {
+    fn join<R: Wait>(&mut self, rt: &R, alloc: Global, place: usize) -> Answer {
         let Some(other) = self.hands.pop() else {
             return Err(LineFault::Condition);
         };
@@ -131,7 +131,7 @@ fn called<R: Wait>(
     passes: &mut Passes,
     set: u8,
     call: &str,
-    line: &Line,
+    line: &CaseLine,
 ) -> Result<Answered, LineFault>
     requires own { ArePassesOf bank.now passes.old }
     requires set { set < length bank.now }

@@ -3,7 +3,7 @@ use crate::banks::BankCase;
 use crate::cells::CellCase;
 use crate::fields::DataSets;
 use crate::targets::TargetsCase;
-use case_lines::{Answer, Answers, Line, LineFault};
+use case_lines::{Answer, Answers, CaseLine, LineFault};
 use std::alloc::Global;
 use std::sync::Wait;
 
@@ -18,12 +18,9 @@ pub struct Bench {
 }
 
 impl<R: Wait> Answers<R> for Bench {
-    fn answer(&mut self, rt: &R, line: &mut Line<'_>) -> Answer {
-        match line.word()? {
-            "data" => {
-                self.sets.push(self.alloc, line)?;
-                Ok(None)
-            }
+    fn answer(&mut self, rt: &R, line: &mut CaseLine<'_>) -> Answer {
+        match line.word() {
+            "data" => self.sets.push(self.alloc, line),
             "cell" => self.cell(rt, line),
             "bank" => self.bank(rt, line),
             "targets" => self.targets(rt, line),
@@ -48,8 +45,8 @@ impl Bench {
         std::mem::replace(&mut self.sets, DataSets::new(self.alloc))
     }
 
-    fn cell<R: Wait>(&mut self, rt: &R, line: &mut Line) -> Answer {
-        let call = line.word()?;
+    fn cell<R: Wait>(&mut self, rt: &R, line: &mut CaseLine) -> Answer {
+        let call = line.word();
         if call == "new" {
             let sets = self.taken();
             self.cell = Some(CellCase::new(rt, self.alloc, &sets)?);
@@ -58,11 +55,11 @@ impl Bench {
         let Some(case) = &mut self.cell else {
             return Err(LineFault::Missing);
         };
-        Ok(Some(case.answer(rt, self.alloc, call, line)?))
+        case.answer(rt, self.alloc, call, line)
     }
 
-    fn bank<R: Wait>(&mut self, rt: &R, line: &mut Line) -> Answer {
-        let call = line.word()?;
+    fn bank<R: Wait>(&mut self, rt: &R, line: &mut CaseLine) -> Answer {
+        let call = line.word();
         if call == "new" {
             let sets = self.taken();
             self.bank = Some(BankCase::new(rt, self.alloc, sets)?);
@@ -71,11 +68,11 @@ impl Bench {
         let Some(case) = &mut self.bank else {
             return Err(LineFault::Missing);
         };
-        Ok(Some(case.answer(rt, self.alloc, call, line)?))
+        case.answer(rt, self.alloc, call, line)
     }
 
-    fn targets<R: Wait>(&mut self, rt: &R, line: &mut Line) -> Answer {
-        let call = line.word()?;
+    fn targets<R: Wait>(&mut self, rt: &R, line: &mut CaseLine) -> Answer {
+        let call = line.word();
         if call == "new" {
             let sets = self.taken();
             self.targets = Some(TargetsCase::new(rt, self.alloc, sets, line)?);
@@ -84,6 +81,6 @@ impl Bench {
         let Some(case) = &mut self.targets else {
             return Err(LineFault::Missing);
         };
-        Ok(Some(case.answer(rt, self.alloc, call, line)?))
+        case.answer(rt, self.alloc, call, line)
     }
 }

@@ -5,7 +5,7 @@ ghost use Rattle.version_cell.specs.Passes.{IsPassOf};
 
 use crate::fields::{DataSets, patch_of};
 use crate::shown::{Answered, done, given, seen, tried, version, written};
-use case_lines::{Line, LineFault};
+use case_lines::{Answer, CaseLine, LineFault};
 use row_words::Patch;
 use std::alloc::Global;
 use std::marker::Model;
@@ -53,8 +53,8 @@ impl CellCase {
         rt: &R,
         alloc: Global,
         call: &str,
-        line: &mut Line,
-    ) -> Result<String, LineFault> {
+        line: &mut CaseLine,
+    ) -> Answer {
         let place = self.place(line)?;
         match call {
             "split" => self.split(alloc, place),
@@ -64,10 +64,10 @@ impl CellCase {
     }
 
     /// The place of a pass.
-    fn place(&self, line: &mut Line) -> Result<usize, LineFault>
+    fn place(&self, line: &mut CaseLine) -> Result<usize, LineFault>
         ensures { IfOk result (λ place. place < length self.now.1) }
     {
-        let place = usize::from(line.u8()?);
+        let place = usize::from(line.u8());
         if place >= self.passes.len() {
             return Err(LineFault::Condition);
         }
@@ -81,8 +81,8 @@ impl CellCase {
         alloc: Global,
         call: &str,
         place: usize,
-        line: &Line,
-    ) -> Result<String, LineFault>
+        line: &CaseLine,
+    ) -> Answer
         requires { place < length self.old.1 }
     {
         let pass = &mut self.passes[place];
@@ -91,7 +91,7 @@ impl CellCase {
     }
 
     /// What a pass has seen, with no step.
-    fn seen(&self, alloc: Global, answer: &Answered, place: usize) -> Result<String, LineFault> {
+    fn seen(&self, alloc: Global, answer: &Answered, place: usize) -> Answer {
         if place >= self.passes.len() {
             return Err(LineFault::Condition);
         }
@@ -99,7 +99,7 @@ impl CellCase {
     }
 
     /// `split PASS`: the place of the new pass
-    fn split(&mut self, alloc: Global, place: usize) -> Result<String, LineFault>
+    fn split(&mut self, alloc: Global, place: usize) -> Answer
         requires { place < length self.old.1 }
     {
         let pass = &mut self.passes[place];
@@ -110,7 +110,7 @@ impl CellCase {
     }
 
     /// `join PASS`: takes in the last pass
-    fn join<R: Wait>(&mut self, rt: &R, alloc: Global, place: usize) -> Result<String, LineFault> {
+    fn join<R: Wait>(&mut self, rt: &R, alloc: Global, place: usize) -> Answer {
         let Some(other) = self.passes.pop() else {
             return Err(LineFault::Condition);
         };
@@ -129,7 +129,7 @@ fn called<R: Wait>(
     cell: &Cell,
     pass: &mut Pass,
     call: &str,
-    line: &Line,
+    line: &CaseLine,
 ) -> Result<Answered, LineFault>
     requires { IsPassOf cell.now pass.old }
     ensures { IsPassOf cell.now pass.new }
@@ -147,7 +147,7 @@ fn write<R: Wait>(
     cell: &Cell,
     pass: &mut Pass,
     call: &str,
-    line: &Line,
+    line: &CaseLine,
 ) -> Result<Answered, LineFault>
     requires { IsPassOf cell.now pass.old }
     ensures { IsPassOf cell.now pass.new }

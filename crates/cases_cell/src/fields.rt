@@ -3,7 +3,7 @@ ghost use Rattle.std.specs.Prelude.{◌≡◌, ◌<◌, ◌^◌, IfOk, length, s
 ghost use Rattle.row_words.specs.Belonging.{Belongs};
 ghost use Rattle.row_words.specs.Patches.{IsPatchOf};
 
-use case_lines::{Line, LineFault, number, parted};
+use case_lines::{Answer, CaseLine, LineFault, number, parted};
 use dataset_meta::{Field, Meta, Name32};
 use row_words::{Patch, Row};
 use std::alloc::Global;
@@ -38,28 +38,28 @@ impl DataSets {
     }
 
     /// `FIELDS QUOTA ..`: a data set of so many fields, whose eight authors may make so many entries
-    pub fn push(&mut self, alloc: Global, line: &mut Line) -> Result<(), LineFault> {
-        let meta = meta_with(alloc, line.u8()?)?;
-        let quotas = quotas_of(line)?;
+    pub fn push(&mut self, alloc: Global, line: &mut CaseLine) -> Answer {
+        let meta = meta_with(alloc, line.u8())?;
+        let quotas = quotas_of(line);
         self.metas.push(meta)?;
         self.quotas.push(quotas)?;
-        Ok(())
+        Ok(None)
     }
 }
 
-fn quotas_of(line: &mut Line) -> Result<[u64; 8], LineFault>
-    ensures { IfOk result (λ quotas. sum quotas < 2 ^ 63) }
+fn quotas_of(line: &mut CaseLine) -> [u64; 8]
+    ensures { sum result < 2 ^ 63 }
 {
-    Ok([
-        u64::from(line.u16()?),
-        u64::from(line.u16()?),
-        u64::from(line.u16()?),
-        u64::from(line.u16()?),
-        u64::from(line.u16()?),
-        u64::from(line.u16()?),
-        u64::from(line.u16()?),
-        u64::from(line.u16()?),
-    ])
+    [
+        u64::from(line.u16()),
+        u64::from(line.u16()),
+        u64::from(line.u16()),
+        u64::from(line.u16()),
+        u64::from(line.u16()),
+        u64::from(line.u16()),
+        u64::from(line.u16()),
+        u64::from(line.u16()),
+    ]
 }
 
 fn meta_with(alloc: Global, count: u8) -> Result<Meta, LineFault> {
@@ -86,7 +86,7 @@ fn name_of(word: &str) -> Result<Name32, LineFault> {
 }
 
 /// `INDEX=VALUE ..`: the changes, put into the empty patch in turn
-pub fn patch_of(meta: &Meta, line: &Line) -> Result<Patch, LineFault>
+pub fn patch_of(meta: &Meta, line: &CaseLine) -> Result<Patch, LineFault>
     ensures { IfOk result (IsPatchOf meta.now) }
 {
     let _fields = meta.fields();
@@ -117,7 +117,7 @@ fn put(meta: &Meta, patch: &mut Patch, word: &str) -> Result<(), LineFault>
 }
 
 /// The opening row with the changes laid in.
-pub fn row_of(meta: &Meta, line: &Line) -> Result<Row, LineFault>
+pub fn row_of(meta: &Meta, line: &CaseLine) -> Result<Row, LineFault>
     ensures { IfOk result (λ row. Belongs meta.now row.words) }
 {
     let patch = patch_of(meta, line)?;

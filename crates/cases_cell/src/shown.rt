@@ -1,8 +1,7 @@
 //! What a call has answered, and what a pass has then seen, as text.
-use case_lines::LineFault;
+use case_lines::{Answer, Told};
 use dataset_meta::Meta;
 use std::alloc::Global;
-use std::fmt::Write;
 use version_cell::{Pass, Placed, Wrote};
 
 /// What a call has answered: a word, and its number where it has one.
@@ -53,27 +52,26 @@ pub fn written(answer: Placed) -> Answered {
 }
 
 /// The answer alone.
-pub fn text(alloc: Global, answer: &Answered) -> Result<String, LineFault> {
-    let mut text = String::from_str(alloc, answer.word)?;
-    if let Some(number) = answer.number {
-        write!(text, "{number}")?;
-    }
-    Ok(text)
+pub fn text(alloc: Global, answer: &Answered) -> Answer {
+    let mut told = Told::new(alloc);
+    tell(&mut told, answer);
+    told.answer()
+}
+
+fn tell(told: &mut Told, answer: &Answered) {
+    told.say(answer.word);
+    told.named("", answer.number);
 }
 
 /// The answer, and behind it the version and the row that the pass has seen.
-pub fn seen(
-    alloc: Global,
-    answer: &Answered,
-    meta: &Meta,
-    pass: &Pass,
-) -> Result<String, LineFault> {
-    let mut text = text(alloc, answer)?;
-    write!(text, " | {}:", pass.version())?;
+pub fn seen(alloc: Global, answer: &Answered, meta: &Meta, pass: &Pass) -> Answer {
+    let mut told = Told::new(alloc);
+    tell(&mut told, answer);
+    told.fill(" | #:", &[pass.version()]);
     let words = pass.row().words.as_slice();
     let count = meta.fields().len().min(words.len());
     for word in &words[..count] {
-        write!(text, " {word}")?;
+        told.fill(" #", &[*word]);
     }
-    Ok(text)
+    told.answer()
 }

@@ -4,7 +4,7 @@ ghost use Rattle.version_cell.specs.Sets.{ArePassesOf};
 
 use crate::fields::{DataSets, row_of};
 use crate::shown::{Answered, done, given, seen, text, version};
-use case_lines::{Line, LineFault, number};
+use case_lines::{Answer, CaseLine, LineFault, number};
 use dataset_meta::Meta;
 use std::alloc::Global;
 use std::marker::Model;
@@ -57,9 +57,9 @@ impl TargetsCase {
         rt: &R,
         alloc: Global,
         sets: DataSets,
-        line: &mut Line,
+        line: &mut CaseLine,
     ) -> Result<TargetsCase, LineFault> {
-        let limit = u64::from(line.u16()?);
+        let limit = u64::from(line.u16());
         let DataSets { metas, .. } = sets;
         let readers = readers_of(alloc, line, &metas)?;
         let Ok(made) = Targets::new(rt, alloc, &metas, &readers, limit) else {
@@ -89,8 +89,8 @@ impl TargetsCase {
         rt: &R,
         alloc: Global,
         call: &str,
-        line: &mut Line,
-    ) -> Result<String, LineFault> {
+        line: &mut CaseLine,
+    ) -> Answer {
         if call == "store" {
             return text(alloc, &version(self.store(rt, line)?));
         }
@@ -104,10 +104,10 @@ impl TargetsCase {
     }
 
     /// The place of a set of passes.
-    fn place(&self, line: &mut Line) -> Result<usize, LineFault>
+    fn place(&self, line: &mut CaseLine) -> Result<usize, LineFault>
         ensures { IfOk result (λ place. place < length self.now.watches) }
     {
-        let place = usize::from(line.u8()?);
+        let place = usize::from(line.u8());
         if place >= self.watches.len() {
             return Err(LineFault::Condition);
         }
@@ -115,8 +115,8 @@ impl TargetsCase {
     }
 
     /// `store READER INDEX=VALUE ..`: stores the opening row with the changes laid in
-    fn store<R: Wait>(&mut self, rt: &R, line: &mut Line) -> Result<u64, LineFault> {
-        let reader = line.u8()?;
+    fn store<R: Wait>(&mut self, rt: &R, line: &mut CaseLine) -> Result<u64, LineFault> {
+        let reader = line.left.u8()?;
         if usize::from(reader) >= self.readers.len() {
             return Err(LineFault::Condition);
         }
@@ -136,11 +136,11 @@ impl TargetsCase {
         alloc: Global,
         call: &str,
         place: usize,
-        line: &mut Line,
-    ) -> Result<String, LineFault>
+        line: &mut CaseLine,
+    ) -> Answer
         requires { place < length self.old.watches }
     {
-        let reader = line.u8()?;
+        let reader = line.u8();
         if usize::from(reader) >= self.readers.len() {
             return Err(LineFault::Condition);
         }
@@ -151,7 +151,7 @@ impl TargetsCase {
     }
 
     /// `level PLACE`
-    fn level<R: Wait>(&mut self, rt: &R, alloc: Global, place: usize) -> Result<String, LineFault>
+    fn level<R: Wait>(&mut self, rt: &R, alloc: Global, place: usize) -> Answer
         requires { place < length self.old.watches }
     {
         let passes = &mut self.watches[place];
@@ -160,7 +160,7 @@ impl TargetsCase {
     }
 
     /// `split PLACE`: the place of the new set of passes
-    fn split(&mut self, alloc: Global, place: usize) -> Result<String, LineFault>
+    fn split(&mut self, alloc: Global, place: usize) -> Answer
         requires { place < length self.old.watches }
     {
         let passes = &mut self.watches[place];
@@ -173,7 +173,7 @@ impl TargetsCase {
     }
 
     /// `join PLACE`: takes in the last set of passes
-    fn join<R: Wait>(&mut self, rt: &R, alloc: Global, place: usize) -> Result<String, LineFault> {
+    fn join<R: Wait>(&mut self, rt: &R, alloc: Global, place: usize) -> Answer {
         let Some(other) = self.watches.pop() else {
             return Err(LineFault::Condition);
         };
@@ -204,7 +204,7 @@ fn called<R: Wait>(
     }
 }
 
-fn readers_of(alloc: Global, line: &Line, metas: &[Meta]) -> Result<Vec<u8>, LineFault>
+fn readers_of(alloc: Global, line: &CaseLine, metas: &[Meta]) -> Result<Vec<u8>, LineFault>
     ensures { IfOk result (λ readers. All (λ set. set < length metas.now) readers.items) }
 {
     let mut readers = Vec::new(alloc);

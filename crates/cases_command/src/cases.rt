@@ -1,52 +1,88 @@
 //! The command whose cases the lines give.
-use crate::{json, keys, lanes, play, relay};
-use case_lines::{Answer, Line, LineFault};
+use crate::given::{Given, WORDS, Word};
+use crate::{json, keys, lanes, playing, relay};
+use case_lines::{Answer, Answers, CaseLine, LineFault, named};
 use std::alloc::Global;
+use std::mem;
 use std::sync::Wait;
 use std::thread::Threads;
 
 /// A case of the command that the last line `command` named, as far as its lines give it.
 #[derive(Drop)]
-pub(crate) enum Cases {
-    Play(play::Case),
-    Keys(keys::Case),
-    Relay(relay::Case),
-    Lanes(lanes::Case),
-    Json(json::Case),
+pub(crate) struct Cases {
+    alloc: Global,
+    command: Command,
+    given: Given,
+}
+
+#[derive(Clone, Copy)]
+enum Command {
+    Play,
+    Keys,
+    Relay,
+    Lanes,
+    Json,
+}
+
+static COMMANDS: [(&str, Command); 5] = [
+    ("play", Command::Play),
+    ("keys", Command::Keys),
+    ("relay", Command::Relay),
+    ("lanes", Command::Lanes),
+    ("json", Command::Json),
+];
+
+impl<R: Threads + Wait + Sync> Answers<R> for Cases {
+    /// What a line answers; only one that runs the command answers anything.
+    fn answer(&mut self, rt: &R, line: &mut CaseLine<'_>) -> Answer {
+        match named(&WORDS, line.word()) {
+            Some(Word::Command) => self.begin(line.named(&COMMANDS, Command::Play)),
+            Some(Word::Run) => self.run(rt, line),
+            Some(word) => self.given.take(self.alloc, word, line),
+            None => Err(LineFault::Call),
+        }
+    }
 }
 
 impl Cases {
     /// Cases of `play`.
     pub(crate) fn new(alloc: Global) -> Cases {
-        Cases::Play(play::Case::new(alloc))
+        Cases {
+            alloc,
+            command: Command::Play,
+            given: nothing(alloc, Command::Play),
+        }
     }
 
     /// Begins the cases of a command.
-    pub(crate) fn begin(&mut self, alloc: Global, command: &str) -> Answer {
-        *self = match command {
-            "play" => Cases::Play(play::Case::new(alloc)),
-            "keys" => Cases::Keys(keys::Case::new(alloc)),
-            "relay" => Cases::Relay(relay::Case::new(alloc)),
-            "lanes" => Cases::Lanes(lanes::Case::new(alloc)),
-            "json" => Cases::Json(json::Case::new(alloc)),
-            _ => return Err(LineFault::Call),
-        };
+    fn begin(&mut self, command: Command) -> Answer {
+        self.command = command;
+        self.given = nothing(self.alloc, command);
         Ok(None)
     }
 
-    /// What a line answers; only one that runs the command answers anything.
-    pub(crate) fn answer<R: Threads + Wait + Sync>(
-        &mut self,
-        rt: &R,
-        alloc: Global,
-        line: &mut Line,
-    ) -> Answer {
-        match self {
-            Cases::Play(case) => case.answer(rt, alloc, line),
-            Cases::Keys(case) => case.answer(alloc, line),
-            Cases::Relay(case) => case.answer(rt, alloc, line),
-            Cases::Lanes(case) => case.answer(rt, alloc, line),
-            Cases::Json(case) => case.answer(rt, alloc, line),
+    /// Runs the command. What `keys` and `json` were given stays; for the others the next case begins.
+    fn run<R: Threads + Wait + Sync>(&mut self, rt: &R, line: &mut CaseLine) -> Answer {
+        let alloc = self.alloc;
+        match self.command {
+            Command::Play => playing::run(rt, alloc, self.taken()),
+            Command::Keys => keys::run(alloc, &self.given, line),
+            Command::Relay => relay::run(rt, alloc, self.taken()),
+            Command::Lanes => lanes::run(rt, alloc, self.taken()),
+            Command::Json => json::run(rt, alloc, &self.given),
         }
+    }
+
+    /// What was given; nothing is, from now on.
+    fn taken(&mut self) -> Given {
+        mem::replace(&mut self.given, nothing(self.alloc, self.command))
+    }
+}
+
+/// What a command has before anything is given: a script is empty, but that of `relay` isn't there.
+fn nothing(alloc: Global, command: Command) -> Given {
+    match command {
+        Command::Relay => Given::new(alloc, None),
+        _ => Given::new(alloc, Some(Vec::new(alloc))),
     }
 }

@@ -2,20 +2,35 @@
 ghost use Rattle.ps_config.specs.Types.{HasTypes};
 ghost use Rattle.writer_group.specs.Standing.{IsGood};
 
-use case_lines::{Answer, LineFault, said};
+use crate::given::Given;
+use case_lines::{Answer, LineFault, Told, said};
 use ps_config::{
     Config, ConfigEnd, Fault, a_configuration_has_its_types, built_in, read_config,
     the_built_in_configuration_is_sound,
 };
 use ps_report::report;
-use ps_script::{ScriptEnd, read_script};
+use ps_script::{ScriptEnd, ScriptFault, read_script};
 use script_player::{PlayEnd, play_script};
 use std::alloc::Global;
 use std::sync::Wait;
 use ua_base::Link;
 
+/// Plays a session: its report, or why there is none.
+pub(crate) fn run<R: Wait>(rt: &R, alloc: Global, given: Given) -> Answer {
+    let Given {
+        config,
+        script,
+        lab,
+        injected,
+        ..
+    } = given;
+    let mut link = lab.link(alloc, injected);
+    let script = script.unwrap_or(Vec::new(alloc));
+    report_of(rt, alloc, &config, &script, &mut link)
+}
+
 /// The report of a configuration and a script over a link, or why there is none.
-pub(crate) fn report_of<R: Wait, L: Link>(
+fn report_of<R: Wait, L: Link>(
     rt: &R,
     alloc: Global,
     config: &Option<Vec<u8>>,
@@ -35,11 +50,19 @@ pub(crate) fn report_of<R: Wait, L: Link>(
 
 /// Why a configuration is refused.
 fn refused_config(alloc: Global, code: u8, place: &str) -> Answer {
-    let name = match Fault::numbered(code) {
-        Some(fault) => fault.name(),
-        None => "",
-    };
-    Ok(Some(format!(in alloc; "config: C{code} {name} {place}")?))
+    let mut told = Told::new(alloc);
+    told.fill("config: C# ", &[code as u64]);
+    told.say(Fault::numbered(code).map_or("", |fault| fault.name()));
+    told.named(" ", Some(place));
+    told.answer()
+}
+
+/// Why a script is refused.
+fn refused_script(alloc: Global, line: u64, fault: ScriptFault) -> Answer {
+    let mut told = Told::new(alloc);
+    told.fill("script: line # S# ", &[line, fault.number() as u64]);
+    told.say(fault.name());
+    told.answer()
 }
 
 /// The report of an accepted configuration.
@@ -56,9 +79,7 @@ fn played<R: Wait, L: Link>(
     let script = match read_script(alloc, config, script, true) {
         Ok(script) => script,
         Err(ScriptEnd::Refused { line, fault }) => {
-            let number = fault.number();
-            let name = fault.name();
-            return Ok(Some(format!(in alloc; "script: line {line} S{number} {name}")?));
+            return refused_script(alloc, line as u64, fault);
         }
         Err(ScriptEnd::Memory) => return Err(LineFault::Memory),
     };

@@ -1,9 +1,10 @@
 //! The calls by their names, and the groups that they are of.
 ghost use Rattle.writer_group.specs.Standing.{IsGood};
 
+use crate::calls::{CALLS, Call, Taking};
 use crate::publishing::Publishing;
 use crate::takers::{Taker, takers_of};
-use case_lines::{Answer, Line, LineFault};
+use case_lines::{Answer, CaseLine, LineFault, named};
 use ps_config::Config;
 use std::alloc::Global;
 
@@ -26,20 +27,18 @@ impl<'c> Bench<'c> {
     }
 
     /// `CALL INDEX ..`, with the index of a data set, a group, a key group or a read group; `moment` is of all senders.
-    pub fn answer(&mut self, line: &mut Line) -> Answer {
-        let call = line.word()?;
-        if call == "moment" {
-            return self.publishing.moment(line.u64()?);
-        }
-        let index = usize::from(line.u8()?);
-        match self.publishing.answer(call, index, line)? {
-            Some(answer) => Ok(Some(answer)),
-            None => self.taken(call, index, line),
+    pub fn answer(&mut self, line: &mut CaseLine) -> Answer {
+        match named(&CALLS, line.word()) {
+            Some(Call::Moment) => self.publishing.moment(line.u64()),
+            Some(Call::Publishing(call)) => self.publishing.answer(call, line),
+            Some(Call::Taking(call)) => self.taken(call, line),
+            None => Err(LineFault::Call),
         }
     }
 
     /// The calls of read groups.
-    fn taken(&mut self, call: &str, index: usize, line: &mut Line) -> Answer {
+    fn taken(&mut self, call: Taking, line: &mut CaseLine) -> Answer {
+        let index = usize::from(line.u8());
         if index >= self.takers.len() {
             return Err(LineFault::Condition);
         }

@@ -4,7 +4,7 @@ ghost use Rattle.row_words.specs.Belonging.{Belongs};
 ghost use Rattle.cases_group.specs.Kept.{AreRows, GrowsAt};
 
 use crate::sets::{meta_at, opening, sampled_at};
-use case_lines::{Line, LineFault, kind_of, number};
+use case_lines::{CaseLine, LineFault, kind_of, number};
 use dataset_meta::{Field, Meta, Name32, copies};
 use row_words::Row;
 use std::alloc::Global;
@@ -19,9 +19,9 @@ pub struct Sets {
 }
 
 /// `NAME KIND` or `NAME KIND CAP`
-pub fn field_of(line: &mut Line) -> Result<Field, LineFault> {
-    let name = line.word()?;
-    let kind = kind_of(line.word()?)?;
+pub fn field_of(line: &mut CaseLine) -> Result<Field, LineFault> {
+    let name = line.word();
+    let kind = kind_of(line.word())?;
     let cap = number::<u16>(line.optional().unwrap_or("0"))?;
     match Name32::new(name.as_bytes()) {
         Some(name) => Ok(Field { name, kind, cap }),

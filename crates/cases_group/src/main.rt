@@ -6,6 +6,7 @@
 ghost use Rattle.writer_group.specs.Standing.{IsGood};
 
 mod bench;
+mod calls;
 mod damage;
 mod groups;
 mod growth;
@@ -19,7 +20,7 @@ mod takers;
 mod turners;
 
 use crate::bench::Bench;
-use case_lines::{AnsweredLine, Line, LineFault, config_of, is_note};
+use case_lines::{Answer, AnsweredLine, CaseLine, LineFault, config_of, is_note};
 use ps_config::Config;
 use std::alloc::Global;
 use std::fmt::Write;
@@ -85,15 +86,20 @@ fn push_cases(
 
 /// A line below the others, and its answer.
 fn push_case(text: &mut String, bench: &mut Bench<'_>, line: &str) -> Result<(), LineFault> {
-    let answer = if is_note(line) {
-        Ok(None)
-    } else {
-        bench.answer(&mut Line::new(line))
-    };
+    let answer = answered(bench, line);
     let told = AnsweredLine {
         line,
         answer: &answer,
     };
     write!(text, "\n{told}")?;
     Ok(())
+}
+
+fn answered(bench: &mut Bench<'_>, line: &str) -> Answer {
+    if is_note(line) {
+        return Ok(None);
+    }
+    let mut line = CaseLine::new(line);
+    let answer = bench.answer(&mut line);
+    line.checked(answer)
 }

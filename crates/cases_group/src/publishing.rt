@@ -1,6 +1,7 @@
 //! The writers' side: rows, groups, senders, and the datagrams that were made.
 ghost use Rattle.writer_group.specs.Standing.{IsGood};
 
+use crate::calls::Publishing as Call;
 use crate::groups::{grown_turners, refresh_all, turners_of};
 use crate::growth::{field_of, grown_sets};
 use crate::pulls::pulled_ring;
@@ -8,12 +9,11 @@ use crate::senders::{has_kept, has_turned, senders_of};
 use crate::sets::{opening_rows, write};
 use crate::shown::{made_text, version_text};
 use crate::turners::{Turner, Turning};
-use case_lines::{Answer, Line, LineFault, said, yes_or_no};
+use case_lines::{Answer, CaseLine, LineFault, Told, said, yes_or_no};
 use dataset_meta::{Field, Meta, copies};
 use message_guard::Sender;
 use ps_config::Config;
 use std::alloc::Global;
-use std::fmt::Write;
 use std::marker::Model;
 use std::mem;
 use writer_group::{Datagrams, Sampled};
@@ -71,29 +71,28 @@ impl<'c> Publishing<'c> {
         &self.made
     }
 
-    /// The answer, or nothing where no call of the writers' side has this name.
-    pub fn answer(&mut self, call: &str, index: usize, line: &mut Line) -> Answer {
+    pub fn answer(&mut self, call: Call, line: &mut CaseLine) -> Answer {
+        let index = usize::from(line.u8());
         match call {
-            "turn" | "closing" | "sizes" => self.turn(call, index, line),
-            "write" => self.write(index, line),
-            "append" => self.append(index, line),
-            "spent" => self.spent(index),
-            "pull" => self.pull(index, line),
-            "due" => self.due(index, line.u64()?),
-            "refresh" => self.refresh(index, line.u8()?),
-            "log" => self.log(index, line.u8()?),
-            _ => Ok(None),
+            Call::Turn | Call::Closing | Call::Sizes => self.turn(call, index, line),
+            Call::Write => self.write(index, line),
+            Call::Append => self.append(index, line),
+            Call::Spent => self.spent(index),
+            Call::Pull => self.pull(index, line),
+            Call::Due => self.due(index, line.u64()),
+            Call::Refresh => self.refresh(index, line.u8()),
+            Call::Log => self.log(index, line.u8()),
         }
     }
 
     /// `SET INDEX:X ..`: fields of a data set get values, `INDEX:!S=X` with a status; tells the row's version
-    fn write(&mut self, set: usize, line: &Line) -> Answer {
+    fn write(&mut self, set: usize, line: &CaseLine) -> Answer {
         let version = write(&self.metas, &mut self.rows, set, line)?;
         version_text(self.alloc, version)
     }
 
     /// `SET NAME KIND`, or `SET NAME KIND CAP`: the data set has a field more, and its writers are fresh
-    fn append(&mut self, set: usize, line: &mut Line) -> Answer {
+    fn append(&mut self, set: usize, line: &mut CaseLine) -> Answer {
         let field = field_of(line)?;
         self.grow(set, field)?;
         said(self.alloc, "done")
@@ -117,18 +116,14 @@ impl<'c> Publishing<'c> {
 
     /// `NOW`: each sender turns to the moment, and where its token changed the writers of its groups are fresh
     pub fn moment(&mut self, now: u64) -> Answer {
-        let mut text = String::from_str(self.alloc, "new token")?;
-        let mut is_same = true;
+        let mut told = Told::new(self.alloc);
         for index in 0..self.senders.len() {
             if self.turned_to(index, now) {
-                write!(text, " {index}")?;
-                is_same = false;
+                let mark = if told.is_empty() { "new token " } else { " " };
+                told.named(mark, Some(index));
             }
         }
-        if is_same {
-            return said(self.alloc, "same tokens");
-        }
-        Ok(Some(text))
+        told.answer_or("same tokens")
     }
 
     /// Turns a sender to a moment; tells whether its token changed.
@@ -153,15 +148,17 @@ impl<'c> Publishing<'c> {
 
     /// `KEYGROUP SERVED COUNT NOW`: its sender goes on with a ring that is pulled; whether that keeps its token, the token, and its
     /// last number
-    fn pull(&mut self, keygroup: usize, line: &mut Line) -> Answer {
+    fn pull(&mut self, keygroup: usize, line: &mut CaseLine) -> Answer {
         let ring = pulled_ring(self.config.keygroup.as_slice(), line)?;
         if keygroup >= self.senders.len() {
             return Err(LineFault::Condition);
         }
         let kept = has_kept(&mut self.senders[keygroup], ring);
         let (token, used) = self.senders[keygroup].standing();
-        let word = if kept { "kept" } else { "lost" };
-        Ok(Some(format!(in self.alloc; "{word} {token} {used}")?))
+        let mut told = Told::new(self.alloc);
+        told.say(if kept { "kept" } else { "lost" });
+        told.fill(" # #", &[token as u64, used as u64]);
+        told.answer()
     }
 
     /// `GROUP NOW`: whether a turn is due
@@ -190,16 +187,17 @@ impl<'c> Publishing<'c> {
     }
 
     /// `GROUP NOW ON`: the datagrams of a turn, which is the closing one or another, or their lengths
-    fn turn(&mut self, call: &str, index: usize, line: &mut Line) -> Answer {
-        let now = line.u64()?;
-        let on = switches(self.alloc, line.word()?)?;
+    fn turn(&mut self, call: Call, index: usize, line: &mut CaseLine) -> Answer {
+        let now = line.u64();
+        let on = switches(self.alloc, line.word())?;
         let turning = Turning {
             now,
             on: &on,
-            closing: call == "closing",
+            closing: matches!(call, Call::Closing),
         };
         let count = self.had_turn(index, &turning)?;
-        made_text(self.alloc, last(&self.made, count), call != "sizes")
+        let made = last(&self.made, count);
+        made_text(self.alloc, made, !matches!(call, Call::Sizes))
     }
 
     /// A turn; tells how many datagrams it made.

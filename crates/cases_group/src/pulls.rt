@@ -2,7 +2,7 @@
 ghost use Rattle.ps_config.specs.Sound.{IsKeyGroup};
 ghost use Rattle.std.specs.Prelude.{All};
 
-use case_lines::{Line, LineFault};
+use case_lines::{CaseLine, LineFault};
 use group_keys::Ring;
 use key_service::{Keys, Service, pulled_at, read_reply, write_reply};
 use ps_config::{KeyGroupPart, ring_of};
@@ -10,10 +10,10 @@ use ua_binary::Pen;
 
 /// `SERVED COUNT NOW`: the ring of a puller whose clock stands at the moment, of what a key service of the ring of this key group
 /// answers it then to start 0.
-pub fn pulled_ring(parts: &[KeyGroupPart], line: &mut Line) -> Result<Ring, LineFault>
+pub fn pulled_ring(parts: &[KeyGroupPart], line: &mut CaseLine) -> Result<Ring, LineFault>
     requires { All IsKeyGroup parts.now }
 {
-    let (served, count, now) = (line.u8()?, line.u32()?, line.u64()?);
+    let (served, count, now) = (line.u8(), line.u32(), line.u64());
     let Some(part) = parts.get(usize::from(served)) else {
         return Err(LineFault::Condition);
     };

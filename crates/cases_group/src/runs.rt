@@ -1,12 +1,11 @@
 //! Many answers in one line.
-use case_lines::{Answer, LineFault};
+use case_lines::{Answer, Told};
 use std::alloc::Global;
-use std::fmt::Write;
 
 /// Answers in a row; those that are equal are told once, with the numbers of the first and the last, which count from 0.
 #[derive(Drop)]
 pub struct Runs {
-    text: String,
+    told: Told,
     answer: String,
     first: usize,
     count: usize,
@@ -15,7 +14,7 @@ pub struct Runs {
 impl Runs {
     pub fn new(alloc: Global) -> Runs {
         Runs {
-            text: String::new(alloc),
+            told: Told::new(alloc),
             answer: String::new(alloc),
             first: 0,
             count: 0,
@@ -23,35 +22,32 @@ impl Runs {
     }
 
     /// The next answer.
-    pub fn add(&mut self, answer: String) -> Result<(), LineFault> {
+    pub fn add(&mut self, answer: String) {
         if answer.as_str() != self.answer.as_str() {
-            self.end()?;
+            self.end();
             self.first = self.count;
             self.answer = answer;
         }
         self.count = self.count.wrapping_add(1);
-        Ok(())
     }
 
     /// The answers so far.
-    pub fn text(mut self) -> Answer {
-        self.end()?;
-        Ok(Some(self.text))
+    pub fn answer(mut self) -> Answer {
+        self.end();
+        self.told.answer()
     }
 
     /// Tells the answers that are equal to the last one, where there is one.
-    fn end(&mut self) -> Result<(), LineFault> {
+    fn end(&mut self) {
         if self.count == 0 {
-            return Ok(());
+            return;
         }
         let last = self.count.wrapping_sub(1);
-        let mark = if self.first > 0 { "; " } else { "" };
-        write!(self.text, "{mark}{}", self.first)?;
+        self.told.apart("; ");
+        self.told.fill("#", &[self.first as u64]);
         if self.first != last {
-            write!(self.text, "-{last}")?;
+            self.told.fill("-#", &[last as u64]);
         }
-        self.text.push(' ')?;
-        self.text.push_str(self.answer.as_str())?;
-        Ok(())
+        self.told.named(" ", Some(self.answer.as_str()));
     }
 }

@@ -3,7 +3,7 @@ ghost use Rattle.std.specs.Prelude.{◌≡◌, ◌<◌, IfOk, length, slice_inde
 ghost use Rattle.row_words.specs.Belonging.{Belongs};
 ghost use Rattle.cases_group.specs.Kept.{AreRows};
 
-use case_lines::{Line, LineFault, number, parted, set_field};
+use case_lines::{CaseLine, LineFault, number, parted, set_field};
 use dataset_meta::Meta;
 use row_words::Row;
 use std::alloc::Global;
@@ -36,7 +36,7 @@ pub fn write(
     sets: &[Meta],
     rows: &mut Vec<Sampled>,
     set: usize,
-    line: &Line,
+    line: &CaseLine,
 ) -> Result<u64, LineFault>
     requires { AreRows sets.now rows.old.items }
     ensures { AreRows sets.now rows.new.items }
@@ -66,7 +66,7 @@ pub fn sampled_at(rows: &Vec<Sampled>, index: usize) -> Sampled
 }
 
 /// The row with the values of the words.
-fn written(meta: &Meta, row: &Row, line: &Line) -> Result<Row, LineFault>
+fn written(meta: &Meta, row: &Row, line: &CaseLine) -> Result<Row, LineFault>
     requires { Belongs meta.now row.now.words }
     ensures { IfOk result (λ row. Belongs meta.now row.words) }
 {

@@ -3,24 +3,26 @@ ghost use Rattle.std.specs.Prelude.{◌≡◌, ◌<◌, IfOk, length};
 ghost use Rattle.dataset_reader.specs.Reader.{IsReaderOf};
 ghost use Rattle.row_words.specs.Belonging.{Belongs};
 
-use case_lines::{Answer, Digits, LineFault, Tally, string_of};
+use case_lines::{Answer, Digits, LineFault, Tally, Told, string_of};
 use dataset_meta::Meta;
 use dataset_reader::{Reader, Why};
 use reader_group::{Refusal, Taken};
 use row_words::Row;
 use std::alloc::Global;
-use std::fmt::Write;
+use ua_values::Value;
 use value_texts::{status_text, value_text};
 
 /// How many parts a datagram had, how many were given to readers, and how many of these were bad; or why it is refused.
 pub fn receipt_text(alloc: Global, receipt: &Result<Taken, Refusal>) -> Result<String, LineFault> {
+    let mut told = Told::new(alloc);
     match receipt {
-        Ok(taken) => Ok(format!(in alloc;
-            "taken {} {} {}",
-            taken.parts, taken.matched, taken.bad
-        )?),
-        Err(refusal) => Ok(format!(in alloc; "{refusal:?}")?),
+        Ok(taken) => {
+            let (parts, matched) = (taken.parts as u64, taken.matched as u64);
+            told.fill("taken # # #", &[parts, matched, taken.bad as u64]);
+        }
+        Err(refusal) => told.name(refusal),
     }
+    told.text()
 }
 
 /// Counts an answer: as `taken` where no part was bad, as `bad` where one was, else as the refusal without what it tells in braces.
@@ -41,47 +43,54 @@ pub fn count(alloc: Global, tally: &mut Tally, answer: &str) -> Result<(), LineF
 }
 
 /// What a reader holds, or why it waits, and its breaks.
-pub fn reader_text(alloc: Global, meta: &Meta, reader: &Reader) -> Result<String, LineFault>
+pub fn tell_reader(told: &mut Told, meta: &Meta, reader: &Reader) -> Result<(), LineFault>
     requires { IsReaderOf meta.now reader.now }
 {
-    let mut text = held_text(alloc, meta, reader)?;
-    write!(text, "; gaps {}", reader.breaks())?;
+    tell_held(told, meta, reader)?;
+    told.fill("; gaps #", &[reader.breaks() as u64]);
     for gap in reader.recent() {
-        write!(text, " {}/{}", gap.expected, gap.got)?;
+        told.fill(" #/#", &[gap.expected as u64, gap.got as u64]);
     }
-    Ok(text)
+    Ok(())
 }
 
-fn held_text(alloc: Global, meta: &Meta, reader: &Reader) -> Result<String, LineFault>
+fn tell_held(told: &mut Told, meta: &Meta, reader: &Reader) -> Result<(), LineFault>
     requires { IsReaderOf meta.now reader.now }
 {
     let Some(row) = reader.row() else {
-        return Ok(String::from_str(alloc, waiting(reader.why()))?);
+        told.say(waiting(reader.why()));
+        return Ok(());
     };
-    let mut fields = Vec::new(alloc);
-    for index in 0..meta.fields().len() as u8 {
-        push_field(&mut fields, meta, row, index)?;
-    }
-    let fields = string_of(fields)?;
     match reader.number() {
-        Some(number) => Ok(format!(in alloc; "holds {number}:{fields}")?),
-        None => Ok(format!(in alloc; "holds -:{fields}")?),
+        Some(number) => told.fill("holds #:", &[number as u64]),
+        None => told.say("holds -:"),
     }
+    for index in 0..meta.fields().len() as u8 {
+        tell_field(told, meta, row, index)?;
+    }
+    Ok(())
 }
 
 /// The text of a field, and its status in front of it where that isn't 0.
-fn push_field(text: &mut Vec<u8>, meta: &Meta, row: &Row, index: u8) -> Result<(), LineFault>
+fn tell_field(told: &mut Told, meta: &Meta, row: &Row, index: u8) -> Result<(), LineFault>
     requires belongs { Belongs meta.now row.now.words }
     requires index { index < length meta.now.fields }
 {
-    text.push(b' ')?;
     let status = row.status(meta, index);
+    let value = row.field(meta, index);
+    told.say(" ");
+    tell_value(told, &value, status)
+}
+
+fn tell_value(told: &mut Told, value: &Value, status: u32) -> Result<(), LineFault> {
+    let mut text = Vec::new(told.alloc());
     if status != 0 {
         text.push(b'!')?;
-        status_text(status, text)?;
+        status_text(status, &mut text)?;
         text.push(b'=')?;
     }
-    value_text(&row.field(meta, index), text)?;
+    value_text(value, &mut text)?;
+    told.say(string_of(text)?.as_str());
     Ok(())
 }
 
@@ -96,32 +105,24 @@ fn waiting(why: Why) -> &'static str {
     }
 }
 
-/// The text, and behind it whether a reader is late, and whether it is ready.
-pub fn marked(mut text: String, is_late: bool, is_ready: bool) -> Answer {
-    if is_late {
-        text.push_str("; late")?;
-    }
-    if is_ready {
-        text.push_str("; ready")?;
-    }
-    Ok(Some(text))
-}
-
 /// How many datagrams a turn made, and they, or their lengths.
 pub fn made_text(alloc: Global, made: &[Vec<u8>], is_whole: bool) -> Answer {
-    let mut text = format!(in alloc; "made {}", made.len())?;
+    let mut told = Told::new(alloc);
+    told.fill("made #", &[made.len() as u64]);
     for datagram in made {
         if is_whole {
-            write!(text, " {}", Digits(datagram))?;
+            told.named(" ", Some(Digits(datagram)));
         } else {
-            write!(text, " {}", datagram.len())?;
+            told.fill(" #", &[datagram.len() as u64]);
         }
     }
-    Ok(Some(text))
+    told.answer()
 }
 
 pub fn version_text(alloc: Global, version: u64) -> Answer {
-    Ok(Some(format!(in alloc; "version {version}")?))
+    let mut told = Told::new(alloc);
+    told.fill("version #", &[version]);
+    told.answer()
 }
 
 pub fn copied(alloc: Global, bytes: &[u8]) -> Result<Vec<u8>, LineFault>

@@ -2,12 +2,15 @@
 ghost use Rattle.std.specs.Prelude.{◌≡◌, ◌<◌, length, slice_index_or};
 ghost use Rattle.writer_group.specs.Standing.{IsGood};
 
+use crate::calls::Taking as Call;
 use crate::damage::damaged;
 use crate::publishing::switches;
 use crate::pulls::pulled_ring;
 use crate::runs::Runs;
-use crate::shown::{copied, count, marked, reader_text, receipt_text};
-use case_lines::{Answer, Line, LineFault, Numbers, Tally, number, said, told, why_of};
+use crate::shown::{copied, count, receipt_text, tell_reader};
+use case_lines::{
+    Answer, CaseLine, Line, LineFault, Numbers, Tally, Told, number, said, told, why_of,
+};
 use dataset_meta::Meta;
 use ps_config::{Config, ReadGroupPart, ReaderPart};
 use reader_group::ReaderGroup;
@@ -67,46 +70,38 @@ impl<'c> Taker<'c> {
         })
     }
 
-    pub fn answer(&mut self, made: &[Vec<u8>], call: &str, line: &mut Line) -> Answer {
+    pub fn answer(&mut self, made: &[Vec<u8>], call: Call, line: &mut CaseLine) -> Answer {
         match call {
-            "reader" => self.reader(line.u8()?),
-            "on" => self.switch(line.word()?),
-            "cut" => self.cut(line.u8()?, line.word()?),
-            "follow" => self.follow(line),
-            _ => self.at_moment(line.u64()?, made, call, line),
+            Call::Reader => self.reader(line.u8()),
+            Call::On => self.switch(line.word()),
+            Call::Cut => self.cut(line.u8(), line.word()),
+            Call::Follow => self.follow(line),
+            Call::Expire => self.expire(line.u64()),
+            Call::Damaged => self.damaged(made, line),
+            Call::Take => self.take(made, line),
+            Call::Prefixes => self.prefixes(made, line),
+            Call::Bits => self.bits(made, line),
         }
     }
 
     /// `SERVED COUNT NOW`: its guard goes on with a ring that is pulled
-    fn follow(&mut self, line: &mut Line) -> Answer {
+    fn follow(&mut self, line: &mut CaseLine) -> Answer {
         let ring = pulled_ring(self.config.keygroup.as_slice(), line)?;
         self.group.renew(ring);
         said(self.alloc, "done")
     }
 
-    /// `NOW`, a call at a moment: timers are looked at, or datagrams come
-    fn at_moment(&mut self, now: u64, made: &[Vec<u8>], call: &str, line: &mut Line) -> Answer {
-        match call {
-            "expire" => {
-                self.group.expire(now);
-                said(self.alloc, "done")
-            }
-            "damaged" => self.damaged(now, made, line),
-            _ => {
-                let bytes = datagram_of(self.alloc, made, line)?;
-                self.come(now, call, &bytes)
-            }
-        }
+    /// `NOW`: timers are looked at
+    fn expire(&mut self, now: u64) -> Answer {
+        self.group.expire(now);
+        said(self.alloc, "done")
     }
 
-    /// `NOW DATAGRAM`: the datagram comes, each beginning of it, or it with each of its bits altered
-    fn come(&mut self, now: u64, call: &str, bytes: &[u8]) -> Answer {
-        match call {
-            "take" => Ok(Some(self.given(now, bytes)?)),
-            "prefixes" => self.prefixes(now, bytes),
-            "bits" => self.bits(now, bytes),
-            _ => Err(LineFault::Call),
-        }
+    /// `NOW DATAGRAM`: the datagram comes
+    fn take(&mut self, made: &[Vec<u8>], line: &mut CaseLine) -> Answer {
+        let now = line.u64();
+        let bytes = datagram_of(self.alloc, made, line)?;
+        Ok(Some(self.given(now, &bytes)?))
     }
 
     /// These bytes come; it decrypts a copy of them.
@@ -116,34 +111,39 @@ impl<'c> Taker<'c> {
         receipt_text(self.alloc, &receipt)
     }
 
-    /// The first bytes of the datagram come, from none to all but one.
-    fn prefixes(&mut self, now: u64, bytes: &[u8]) -> Answer {
+    /// `NOW DATAGRAM`: the first bytes of the datagram come, from none to all but one
+    fn prefixes(&mut self, made: &[Vec<u8>], line: &mut CaseLine) -> Answer {
+        let now = line.u64();
+        let bytes = datagram_of(self.alloc, made, line)?;
         let mut runs = Runs::new(self.alloc);
         for end in 0..bytes.len() {
             let answer = self.given(now, &bytes[..end])?;
-            runs.add(answer)?;
+            runs.add(answer);
         }
-        runs.text()
+        runs.answer()
     }
 
-    /// The datagram comes with each of its bits altered in turn.
-    fn bits(&mut self, now: u64, bytes: &[u8]) -> Answer {
+    /// `NOW DATAGRAM`: the datagram comes with each of its bits altered in turn
+    fn bits(&mut self, made: &[Vec<u8>], line: &mut CaseLine) -> Answer {
+        let now = line.u64();
+        let mut bytes = datagram_of(self.alloc, made, line)?;
         let mut runs = Runs::new(self.alloc);
         for at in 0..bytes.len() {
             for bit in 0u8..8 {
-                let mut altered = copied(self.alloc, bytes)?;
-                altered[at] ^= 1 << bit;
-                let answer = self.given(now, &altered)?;
-                runs.add(answer)?;
+                bytes[at] ^= 1 << bit;
+                let answer = self.given(now, &bytes)?;
+                bytes[at] ^= 1 << bit;
+                runs.add(answer);
             }
         }
-        runs.text()
+        runs.answer()
     }
 
     /// `NOW SEED COUNT`: so many datagrams come, random ones and damaged ones of those that were made
-    fn damaged(&mut self, now: u64, made: &[Vec<u8>], line: &mut Line) -> Answer {
-        let mut numbers = Numbers::new(line.u64()?);
-        let times = line.u32()?;
+    fn damaged(&mut self, made: &[Vec<u8>], line: &mut CaseLine) -> Answer {
+        let now = line.u64();
+        let mut numbers = Numbers::new(line.u64());
+        let times = line.u32();
         let mut tally = Tally::new(self.alloc);
         for _ in 0..times {
             let bytes = damaged(self.alloc, &mut numbers, made)?;
@@ -160,8 +160,19 @@ impl<'c> Taker<'c> {
         }
         let part = reader_at(self.part, index);
         let meta = meta_at(self.config, part.dataset);
-        let text = reader_text(self.alloc, meta, self.group.reader(index))?;
-        marked(text, self.group.is_late(index), self.group.is_ready(index))
+        let mut told = Told::new(self.alloc);
+        tell_reader(&mut told, meta, self.group.reader(index))?;
+        told.say(if self.group.is_late(index) {
+            "; late"
+        } else {
+            ""
+        });
+        told.say(if self.group.is_ready(index) {
+            "; ready"
+        } else {
+            ""
+        });
+        told.answer()
     }
 
     /// `ON`: which readers are enabled
@@ -207,7 +218,7 @@ fn meta_at(config: &Config, set: u8) -> &Meta
 }
 
 /// `#K`, the K-th of the datagrams that were made, or its bytes.
-fn datagram_of(alloc: Global, made: &[Vec<u8>], line: &mut Line) -> Result<Vec<u8>, LineFault> {
+fn datagram_of(alloc: Global, made: &[Vec<u8>], line: &mut CaseLine) -> Result<Vec<u8>, LineFault> {
     let text = line.rest();
     let Some(word) = text.strip_prefix('#') else {
         return Line::new(text).bytes(alloc);

@@ -4,12 +4,11 @@ ghost use Rattle.ps_config.specs.Headers.{is_secured};
 ghost use Rattle.writer_group.specs.Standing.{IsReserved, datagrams_in};
 
 use crate::shown::copied;
-use case_lines::{Answer, LineFault};
+use case_lines::{Answer, LineFault, Told};
 use dataset_meta::Meta;
 use message_guard::Sender;
 use ps_config::{Config, GroupPart, Security, is_fixed, lacks_room};
 use std::alloc::Global;
-use std::fmt::Write;
 use writer_group::{Datagrams, Group, Sampled};
 
 /// How many turns a group may have.
@@ -203,11 +202,12 @@ impl<'c> Turner<'c> {
         if usize::from(index) >= self.part.writer.as_slice().len() {
             return Err(LineFault::Condition);
         }
-        let mut text = String::from_str(alloc, "log")?;
+        let mut told = Told::new(alloc);
+        told.say("log");
         for (place, version) in self.group.writer(index).log() {
-            write!(text, " {place}={version}")?;
+            told.fill(" #=#", &[*place, *version]);
         }
-        Ok(Some(text))
+        told.answer()
     }
 }
 

@@ -2,7 +2,7 @@
 use crate::answers::{get, pull, reply};
 use crate::rings::ring_of;
 use crate::wire::{pull_for, pull_reply, read_reply_row, read_request_row, request};
-use case_lines::{Answer, Answers, Line, LineFault, refused, said};
+use case_lines::{Answer, Answers, CaseLine, LineFault, refused, said};
 use dataset_meta::Name32;
 use key_service::Service;
 use std::alloc::Global;
@@ -15,8 +15,8 @@ pub struct Bench {
 }
 
 impl<R> Answers<R> for Bench {
-    fn answer(&mut self, _rt: &R, line: &mut Line<'_>) -> Answer {
-        match line.word()? {
+    fn answer(&mut self, _rt: &R, line: &mut CaseLine<'_>) -> Answer {
+        match line.word() {
             "serve" => self.serve(line),
             "request" => request(self.alloc, line),
             "read_request" => read_request_row(self.alloc, line),
@@ -37,7 +37,7 @@ impl Bench {
     }
 
     /// `serve NAME LONG SET ..`: the service of the group and this ring from now on, or why it can't be served
-    fn serve(&mut self, line: &mut Line) -> Answer {
+    fn serve(&mut self, line: &mut CaseLine) -> Answer {
         let name = name_of(line)?;
         let ring = ring_of(line)?;
         match Service::new(name, ring) {
@@ -49,7 +49,7 @@ impl Bench {
         }
     }
 
-    fn call(&self, call: &str, line: &mut Line) -> Answer {
+    fn call(&self, call: &str, line: &mut CaseLine) -> Answer {
         let Some(service) = &self.service else {
             return Err(LineFault::Condition);
         };
@@ -63,8 +63,8 @@ impl Bench {
 }
 
 /// The next word, a name.
-pub fn name_of(line: &mut Line) -> Result<Name32, LineFault> {
-    match Name32::new(line.word()?.as_bytes()) {
+pub fn name_of(line: &mut CaseLine) -> Result<Name32, LineFault> {
+    match Name32::new(line.word().as_bytes()) {
         Some(name) => Ok(name),
         None => Err(LineFault::Condition),
     }

@@ -1,11 +1,11 @@
 //! Rings from words.
 use arrayvec::ArrayVec;
-use case_lines::{Line, LineFault, number, parted};
+use case_lines::{CaseLine, LineFault, number, parted};
 use group_keys::{KeySet, Ring};
 
 /// The ring `LONG SET ..`: `long` for AES-256 or `short` for AES-128, and each set as TOKEN:MOMENT.
-pub fn ring_of(line: &mut Line) -> Result<Ring, LineFault> {
-    let long = line.word()? == "long";
+pub fn ring_of(line: &mut CaseLine) -> Result<Ring, LineFault> {
+    let long = line.word() == "long";
     let mut sets = ArrayVec::new();
     for word in line.words() {
         if sets.is_full() {

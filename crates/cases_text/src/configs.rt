@@ -1,13 +1,12 @@
 //! Configurations.
-use case_lines::{Answer, Digits, Line, LineFault, said};
-use ps_config::{Config, ConfigEnd, Fault, built_in, read_config};
+use case_lines::{Answer, CaseLine, Digits, LineFault, Told, said};
+use ps_config::{Config, ConfigEnd, Fault, KeyGroupPart, built_in, read_config};
 use std::alloc::Global;
-use std::fmt::Write;
 
 /// `TEXT`: `ok`, or, where it is asked for, all that the accepted text says, keys in digits behind it; or the number, the name and
 /// the table of what refuses the text
-pub fn read(alloc: Global, line: &mut Line, tells_all: bool) -> Answer {
-    match read_config(alloc, &line.text(alloc)?) {
+pub fn read(alloc: Global, line: &mut CaseLine, tells_all: bool) -> Answer {
+    match read_config(alloc, &line.text(alloc)) {
         Ok(config) if tells_all => shown(alloc, &config),
         Ok(_) => said(alloc, "ok"),
         Err(end) => refused(alloc, &end),
@@ -20,20 +19,25 @@ pub fn built_in_values(alloc: Global) -> Answer {
 }
 
 fn shown(alloc: Global, config: &Config) -> Answer {
-    let mut text = format!(in alloc; "{config:?}")?;
+    let mut told = Told::new(alloc);
+    told.name(config);
+    for group in config.keygroup.as_slice() {
+        tell_keys(&mut told, group);
+    }
+    let mut text = told.text()?;
     // names and texts stand in arrays that zeros fill: zeros in a row are shown once
     for _ in 0..9 {
         text = text.replace(alloc, ", 0, 0", ", 0")?;
     }
-    for group in config.keygroup.as_slice() {
-        for key in group.key.as_slice() {
-            let signing = Digits(key.signing.as_slice());
-            let encrypting = Digits(key.encrypting.as_bytes());
-            let nonce = Digits(key.nonce.as_slice());
-            write!(text, " {signing} {encrypting} {nonce}")?;
-        }
-    }
     Ok(Some(text))
+}
+
+fn tell_keys(told: &mut Told, group: &KeyGroupPart) {
+    for key in group.key.as_slice() {
+        told.named(" ", Some(Digits(key.signing.as_slice())));
+        told.named(" ", Some(Digits(key.encrypting.as_bytes())));
+        told.named(" ", Some(Digits(key.nonce.as_slice())));
+    }
 }
 
 fn refused(alloc: Global, end: &ConfigEnd) -> Answer {
@@ -43,6 +47,9 @@ fn refused(alloc: Global, end: &ConfigEnd) -> Answer {
     let Some(fault) = Fault::numbered(*code) else {
         return Err(LineFault::Condition);
     };
-    let path = path.as_str();
-    Ok(Some(format!(in alloc; "C{code} {fault} {path}")?))
+    let mut told = Told::new(alloc);
+    told.fill("C# ", &[*code as u64]);
+    told.show(&fault);
+    told.named(" ", Some(path.as_str()));
+    told.answer()
 }

@@ -8,7 +8,6 @@ mod configs;
 mod reports;
 mod scripts;
 mod states;
-mod texts;
 mod values;
 
 use crate::bench::Bench;

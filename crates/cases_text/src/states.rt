@@ -6,61 +6,67 @@ ghost use Rattle.pubsub_states.specs.Components.{counts_of};
 mod counts;
 
 use crate::states::counts::config_with;
-use crate::texts::{push_number, push_word};
-use case_lines::{Answer, Line, LineFault, parted, told};
+use case_lines::{Answer, LineFault, Told, parted, told};
 use ps_config::Config;
 use pubsub_states::{Components, State, Switched, Tree};
 use std::alloc::Global;
-use std::fmt::Write;
+
+/// What is asked of the components.
+#[derive(Clone, Copy)]
+pub enum Call {
+    Names,
+    Id,
+    Below,
+    States,
+}
 
 /// `COUNTS` or `COUNTS | ARGUMENT ..`: what a call tells of the components of the configuration with these counts
-pub fn answer(alloc: Global, call: &str, line: &mut Line) -> Answer {
-    let (mut front, mut rest) = match line.halves() {
-        Ok(halves) => halves,
-        Err(_) => (Line::new(line.rest()), Line::new("")),
+pub fn answer(alloc: Global, call: Call, text: &str) -> Answer {
+    let (counts, rest) = match text.split_once(" | ") {
+        Some(halves) => halves,
+        None => (text, ""),
     };
-    let config = config_with(alloc, front.rest())?;
+    let config = config_with(alloc, counts)?;
     match call {
-        "states" => states(alloc, &config, &rest),
-        "names" => below(alloc, &config, "root"),
-        "below" => below(alloc, &config, rest.word()?),
-        "id" => told(alloc, &id_named(alloc, &config, rest.word()?)?),
-        _ => Err(LineFault::Call),
+        Call::States => states(alloc, &config, rest),
+        Call::Names => below(alloc, &config, "root"),
+        Call::Below => below(alloc, &config, rest),
+        Call::Id => told(alloc, &id_named(alloc, &config, rest)?),
     }
 }
+
+static STATES: [State; 5] = [
+    State::Disabled,
+    State::Paused,
+    State::Operational,
+    State::Error,
+    State::PreOperational,
+];
 
 /// Each state's number and word.
 pub fn words(alloc: Global) -> Answer {
-    let mut text = String::new(alloc);
-    for state in [
-        State::Disabled,
-        State::Paused,
-        State::Operational,
-        State::Error,
-        State::PreOperational,
-    ] {
-        let before = if text.is_empty() { "" } else { " " };
-        push_number(&mut text, before, u64::from(state.number()))?;
-        write!(text, "={state}")?;
+    let mut told = Told::new(alloc);
+    for state in &STATES {
+        told.apart(" ");
+        told.fill("#=", &[state.number() as u64]);
+        told.show(state);
     }
-    Ok(Some(text))
+    told.answer()
 }
 
 /// What each switch answers, and then the number of each component's state in the order of ids.
-fn states(alloc: Global, config: &Config, line: &Line) -> Answer
+fn states(alloc: Global, config: &Config, words: &str) -> Answer
     requires { IsFew config.now }
 {
     let mut tree = Tree::new(alloc, config)?;
-    let mut text = String::new(alloc);
-    for word in line.words() {
+    let mut told = Told::new(alloc);
+    for word in words.split_whitespace() {
         let (call, name) = parted(word, ':')?;
         let id = id_named(alloc, config, name)?;
-        if let Some(answer) = change(&mut tree, call, id)? {
-            push_word(&mut text, answer)?;
-        }
+        told.word("", change(&mut tree, call, id)?);
     }
-    push_states(&mut text, &tree)?;
-    Ok(Some(text))
+    tell_states(&mut told, &tree);
+    told.answer()
 }
 
 /// The names of the component with a name and of all below it, in the order of their ids.
@@ -69,16 +75,16 @@ fn below(alloc: Global, config: &Config, name: &str) -> Answer
 {
     let upper = id_named(alloc, config, name)?;
     let components = Components::new(alloc, config)?;
-    let mut text = String::new(alloc);
+    let mut told = Told::new(alloc);
     for lower in 0..components.as_slice().len() as u8 {
-        push_below(&mut text, config, &components, upper, lower)?;
+        tell_below(&mut told, config, &components, upper, lower)?;
     }
-    Ok(Some(text))
+    told.answer()
 }
 
 /// The name of the second component, where the first is at or above it.
-fn push_below(
-    text: &mut String,
+fn tell_below(
+    told: &mut Told,
     config: &Config,
     components: &Components,
     upper: u8,
@@ -95,7 +101,10 @@ fn push_below(
         return Ok(());
     }
     match std::str::from_utf8(component.name(config)) {
-        Ok(name) => push_word(text, name),
+        Ok(name) => {
+            told.word("", Some(name));
+            Ok(())
+        }
         Err(_) => Err(LineFault::Condition),
     }
 }
@@ -138,10 +147,9 @@ fn word_of(switched: Switched) -> &'static str {
 }
 
 /// The number of each component's state.
-fn push_states(text: &mut String, tree: &Tree) -> Result<(), LineFault> {
-    push_word(text, "")?;
+fn tell_states(told: &mut Told, tree: &Tree) {
+    told.apart(" ");
     for id in 0..tree.components().as_slice().len() as u8 {
-        push_number(text, "", u64::from(tree.state(id).number()))?;
+        told.show(&tree.state(id).number());
     }
-    Ok(())
 }

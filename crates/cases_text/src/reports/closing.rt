@@ -25,7 +25,8 @@ pub fn closed_of(alloc: Global, config: &Config, pieces: &mut Pieces) -> Result<
     let read_groups = ends(alloc, "readgroup", read_group_parts.len(), pieces)?;
     let readers = readers(alloc, sets, read_group_parts, pieces)?;
     let watches = watches(alloc, readers.as_slice(), pieces)?;
-    let link = link(&mut pieces.piece("link")?)?;
+    pieces.begin("link");
+    let link = link(&mut pieces.line);
     Ok(Closed {
         histories,
         groups,
@@ -61,7 +62,8 @@ fn push_ends<T: End + Drop>(
     ensures { OnOk result (length ends.new.items ≡ length ends.old.items + count) }
 {
     for _index in 0..count {
-        ends.push(T::read(alloc, &mut pieces.piece(word)?)?)?;
+        pieces.begin(word);
+        ends.push(T::read(alloc, &mut pieces.line))?;
     }
     Ok(())
 }
@@ -124,10 +126,10 @@ fn watches(
 {
     let mut ends = Vec::new(alloc);
     'lines: for _ in 0..64 {
-        let Some(mut line) = pieces.optional("watch") else {
+        if !pieces.has_begun("watch") {
             break;
-        };
-        let end = watch(alloc, &mut line)?;
+        }
+        let end = watch(alloc, &mut pieces.line);
         if usize::from(end.reader) >= readers.len() {
             return Err(LineFault::Condition);
         }

@@ -5,7 +5,7 @@ ghost use Rattle.ps_report.specs.Conditions.{BelongsTo, HoldsRow};
 
 use crate::reports::ends::{recent, state};
 use crate::reports::pieces::Pieces;
-use case_lines::{Line, LineFault, set_field, why_of};
+use case_lines::{CaseLine, LineFault, set_field, why_of};
 use dataset_meta::Meta;
 use ps_config::ReaderPart;
 use ps_report::{HeldEnd, ReaderEnd, Why};
@@ -15,17 +15,17 @@ use row_words::Row;
 pub fn reader(sets: &[Meta], part: &ReaderPart, pieces: &mut Pieces) -> Result<ReaderEnd, LineFault>
     ensures { IfOk result (HoldsRow sets.now part.now) }
 {
-    let mut line = pieces.piece("reader")?;
-    let state = state(&mut line)?;
-    let (held, why) = held_or_why(sets, part, &mut line)?;
-    let mut gaps = pieces.piece("gaps")?;
-    let breaks = gaps.u64()?;
+    pieces.begin("reader");
+    let state = state(&mut pieces.line);
+    let (held, why) = held_or_why(sets, part, &mut pieces.line)?;
+    pieces.begin("gaps");
+    let breaks = pieces.line.u64();
     Ok(ReaderEnd {
         state,
         held,
         why,
         breaks,
-        recent: recent(&gaps)?,
+        recent: recent(&mut pieces.line),
     })
 }
 
@@ -33,25 +33,27 @@ pub fn reader(sets: &[Meta], part: &ReaderPart, pieces: &mut Pieces) -> Result<R
 fn held_or_why(
     sets: &[Meta],
     part: &ReaderPart,
-    line: &mut Line,
+    line: &mut CaseLine,
 ) -> Result<(Option<HeldEnd>, Why), LineFault>
     ensures { IfOk result (λ told. IfSome told.0
         (λ held. BelongsTo (slice_get sets.now part.now.dataset) held.row.words)) }
 {
-    match line.word()? {
-        "waits" => Ok((None, why_of(line.word()?)?)),
+    match line.word() {
+        "waits" => Ok((None, why_of(line.word())?)),
         "holds" => Ok((Some(held(sets, part, line)?), Why::Gap)),
         _ => Err(LineFault::Missing),
     }
 }
 
-fn held(sets: &[Meta], part: &ReaderPart, line: &mut Line) -> Result<HeldEnd, LineFault>
+/// `N V X ..`, number and version each a dash where there is none
+fn held(sets: &[Meta], part: &ReaderPart, line: &mut CaseLine) -> Result<HeldEnd, LineFault>
     ensures { IfOk result (λ held. BelongsTo (slice_get sets.now part.now.dataset) held.row.words) }
 {
     let Some(meta) = sets.get(usize::from(part.dataset)) else {
         return Err(LineFault::Condition);
     };
-    let (number, version) = number_and_version(line)?;
+    let number = line.number_or_dash();
+    let version = line.number_or_dash();
     let row = row(meta, line)?;
     Ok(HeldEnd {
         number,
@@ -60,26 +62,13 @@ fn held(sets: &[Meta], part: &ReaderPart, line: &mut Line) -> Result<HeldEnd, Li
     })
 }
 
-/// `N V`, each a dash where there is none
-fn number_and_version(line: &mut Line) -> Result<(Option<u16>, Option<u64>), LineFault> {
-    let number = match line.word()? {
-        "-" => None,
-        word => Some(Line::new(word).u16()?),
-    };
-    let version = match line.word()? {
-        "-" => None,
-        word => Some(Line::new(word).u64()?),
-    };
-    Ok((number, version))
-}
-
 /// A row by a word for each field.
-fn row(meta: &Meta, line: &mut Line) -> Result<Row, LineFault>
+fn row(meta: &Meta, line: &mut CaseLine) -> Result<Row, LineFault>
     ensures { IfOk result (λ row. Belongs meta.now row.words) }
 {
     let mut row = Row::opening();
     for index in 0..meta.fields().len() as u8 {
-        set_field(meta, &mut row, index, line.word()?)?;
+        set_field(meta, &mut row, index, line.word())?;
     }
     Ok(row)
 }

@@ -1,36 +1,41 @@
 //! The pieces of a line.
-use case_lines::{Line, LineFault};
+use case_lines::{CaseLine, Line, LineFault};
 
-/// What is left of a line of pieces. They are parted by ` ; `, and each begins with a word that tells what it is of.
+/// What is left of a line of pieces. ` ; ` stands before each, and each begins with a word that tells what it is of.
 #[derive(Drop)]
 pub struct Pieces<'a> {
+    /// What is left of the piece that was begun last.
+    pub line: CaseLine<'a>,
     rest: &'a str,
 }
 
 impl<'a> Pieces<'a> {
-    pub fn new(line: &'a str) -> Pieces<'a> {
-        Pieces { rest: line }
-    }
-
-    /// What stands behind the first word of the next piece, which is this word.
-    pub fn piece(&mut self, word: &str) -> Result<Line<'a>, LineFault> {
-        match self.optional(word) {
-            Some(line) => Ok(line),
-            None => Err(LineFault::Missing),
+    pub fn new(text: &'a str) -> Pieces<'a> {
+        Pieces {
+            line: CaseLine::new(""),
+            rest: text.strip_prefix("; ").unwrap_or(""),
         }
     }
 
-    /// The same, where the next piece begins with this word.
-    pub fn optional(&mut self, word: &str) -> Option<Line<'a>> {
+    /// Begins the next piece, which is of this word.
+    pub fn begin(&mut self, word: &str) {
+        if !self.has_begun(word) {
+            self.line.fail(LineFault::Missing);
+        }
+    }
+
+    /// Begins the next piece, where it is of this word.
+    pub fn has_begun(&mut self, word: &str) -> bool {
         let (piece, rest) = match self.rest.split_once(" ; ") {
             Some(halves) => halves,
             None => (self.rest, ""),
         };
-        let mut line = Line::new(piece);
-        if line.optional()? != word {
-            return None;
+        let mut left = Line::new(piece);
+        if left.optional().unwrap_or("") != word {
+            return false;
         }
+        self.line.left = left;
         self.rest = rest;
-        Some(line)
+        true
     }
 }

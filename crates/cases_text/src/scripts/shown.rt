@@ -1,94 +1,95 @@
 //! Lines of scripts as text.
-use crate::texts::push_number;
-use case_lines::{Answer, LineFault};
+use case_lines::{Answer, LineFault, Told};
 use ps_script::{Act, Line};
 use row_words::Patch;
 use std::alloc::Global;
-use std::fmt::Write;
 use ua_base::Fate;
 
-/// The answer of a word, and behind it each of the lines.
-pub fn lines_told(alloc: Global, word: &str, lines: &[Line]) -> Answer {
-    let mut text = String::from_str(alloc, word)?;
-    for line in lines {
-        push_line(&mut text, line)?;
-    }
-    Ok(Some(text))
+/// The answer `ok`, and behind it each of the lines.
+pub fn lines_told(alloc: Global, lines: &[Line]) -> Answer {
+    let mut told = Told::new(alloc);
+    told.say("ok");
+    tell_lines(&mut told, lines);
+    told.answer()
 }
 
-/// A line: its number, and what it does. Data sets, readers and components are numbers from 0.
-fn push_line(text: &mut String, line: &Line) -> Result<(), LineFault> {
-    push_number(text, "; ", u64::from(line.at))?;
-    match &line.act {
+pub fn tell_lines(told: &mut Told, lines: &[Line]) {
+    for line in lines {
+        told.fill("; # ", &[line.at as u64]);
+        tell_act(told, &line.act);
+    }
+}
+
+/// What a line does. Data sets, readers and components are numbers from 0.
+fn tell_act(told: &mut Told, act: &Act) {
+    match act {
         Act::Write { thread, set, patch } => {
-            push_number(text, " write ", u64::from(*thread))?;
-            push_number(text, " ", u64::from(*set))?;
-            push_patch(text, patch)
+            told.fill("write # #", &[*thread as u64, *set as u64]);
+            tell_patch(told, patch);
         }
-        Act::Tick(ms) => push_number(text, " tick ", u64::from(*ms)),
-        Act::Enable(id) => push_number(text, " enable ", u64::from(*id)),
-        Act::Disable(id) => push_number(text, " disable ", u64::from(*id)),
+        Act::Tick(ms) => told.fill("tick #", &[*ms as u64]),
+        Act::Enable(id) => told.fill("enable #", &[*id as u64]),
+        Act::Disable(id) => told.fill("disable #", &[*id as u64]),
         Act::Fated { k, fate } => {
-            push_number(text, " fate ", *k)?;
-            push_fate(text, *fate)
+            told.fill("fate #", &[*k]);
+            tell_fate(told, *fate);
         }
         Act::Watch {
             thread,
             reader,
             times,
-        } => {
-            push_number(text, " watch ", u64::from(*thread))?;
-            push_number(text, " ", u64::from(*reader))?;
-            push_number(text, " ", u64::from(*times))
-        }
-        Act::Append { set } => push_number(text, " append ", u64::from(*set)),
+        } => told.fill(
+            "watch # # #",
+            &[*thread as u64, *reader as u64, *times as u64],
+        ),
+        Act::Append { set } => told.fill("append #", &[*set as u64]),
     }
 }
 
 /// A patch: its mask, and the words that aren't zero, each with its place.
-fn push_patch(text: &mut String, patch: &Patch) -> Result<(), LineFault> {
-    write!(text, " {:x}:", patch.mask)?;
+fn tell_patch(told: &mut Told, patch: &Patch) {
+    told.hex(" ", patch.mask);
+    told.say(":");
     let words = &patch.row.words;
     for index in 0..words.len() {
         let word = words[index];
         if word != 0 {
-            push_number(text, " ", index as u64)?;
-            write!(text, "={word:x}")?;
+            told.fill(" #", &[index as u64]);
+            told.hex("=", word);
         }
     }
-    Ok(())
 }
 
-fn push_fate(text: &mut String, fate: Fate) -> Result<(), LineFault> {
+fn tell_fate(told: &mut Told, fate: Fate) {
     match fate {
-        Fate::Drop => Ok(text.push_str(" drop")?),
-        Fate::Repeat { times } => push_number(text, " repeat ", u64::from(times)),
-        Fate::Hold { after } => push_number(text, " hold ", after),
-        Fate::Again { after } => push_number(text, " again ", after),
+        Fate::Drop => told.say(" drop"),
+        Fate::Repeat { times } => told.fill(" repeat #", &[times as u64]),
+        Fate::Hold { after } => told.fill(" hold #", &[after]),
+        Fate::Again { after } => told.fill(" again #", &[after]),
     }
 }
 
 /// A line of generated work as a script spells it: a tick, or a write of one of the four fields of the built-in data set.
-pub fn push_spelled(text: &mut String, line: &Line) -> Result<(), LineFault> {
+pub fn tell_spelled(told: &mut Told, line: &Line) -> Result<(), LineFault> {
     match &line.act {
         Act::Write { thread, patch, .. } => {
-            push_number(text, "write ", u64::from(*thread))?;
-            push_field(text, patch)?;
+            told.fill("write #", &[*thread as u64]);
+            tell_field(told, patch);
         }
-        Act::Tick(ms) => push_number(text, "tick ", u64::from(*ms))?,
+        Act::Tick(ms) => told.fill("tick #", &[*ms as u64]),
         _ => return Err(LineFault::Condition),
     }
-    text.push('\n')?;
+    told.say("\n");
     Ok(())
 }
 
 /// The field that a patch of generated work changes.
-fn push_field(text: &mut String, patch: &Patch) -> Result<(), LineFault> {
+fn tell_field(told: &mut Told, patch: &Patch) {
     let words = &patch.row.words;
     match patch.mask {
-        1 => push_number(text, " demo a=", words[0]),
-        2 => push_number(text, " demo b=", words[1]),
-        4 => push_number(text, " demo c=", words[2]),
-        _ => push_number(text, " demo d=", words[3]),
+        1 => told.fill(" demo a=#", &[words[0]]),
+        2 => told.fill(" demo b=#", &[words[1]]),
+        4 => told.fill(" demo c=#", &[words[2]]),
+        _ => told.fill(" demo d=#", &[words[3]]),
     }
 }

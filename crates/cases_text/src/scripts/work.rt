@@ -2,27 +2,27 @@
 ghost use Rattle.ps_config.specs.Sound.{IsSound};
 
 use crate::scripts::refused;
-use crate::scripts::shown::{lines_told, push_spelled};
-use case_lines::{Answer, Line, LineFault, said};
+use crate::scripts::shown::{lines_told, tell_lines, tell_spelled};
+use case_lines::{Answer, CaseLine, LineFault, Told, said};
 use ps_config::Config;
 use ps_script::{Line as ScriptLine, Script, generate, read_script};
 use std::alloc::Global;
 
 /// `N`: the lines of the work in which each thread writes eight times as often, or how many they are and the last nine
-pub fn told(alloc: Global, call: &str, line: &mut Line) -> Answer {
+pub fn told(alloc: Global, line: &mut CaseLine, tells_all: bool) -> Answer {
     let Some(work) = work_of(alloc, line)? else {
         return said(alloc, "no such work");
     };
     let lines = work.lines.as_slice();
-    if call == "ends" {
-        ends(alloc, lines)
+    if tells_all {
+        lines_told(alloc, lines)
     } else {
-        lines_told(alloc, "ok", lines)
+        ends(alloc, lines)
     }
 }
 
 /// `N`: whether the text of that work is read as that work
-pub fn reread(alloc: Global, config: &Config, line: &mut Line) -> Answer
+pub fn reread(alloc: Global, config: &Config, line: &mut CaseLine) -> Answer
     requires { IsSound config.now }
 {
     match work_of(alloc, line)? {
@@ -32,8 +32,8 @@ pub fn reread(alloc: Global, config: &Config, line: &mut Line) -> Answer
 }
 
 /// The work of the line's number, where there is such work.
-fn work_of(alloc: Global, line: &mut Line) -> Result<Option<Script>, LineFault> {
-    let n = line.u32()?;
+fn work_of(alloc: Global, line: &mut CaseLine) -> Result<Option<Script>, LineFault> {
+    let n = line.u32();
     if n < 1 || 1024 < n {
         return Ok(None);
     }
@@ -41,9 +41,10 @@ fn work_of(alloc: Global, line: &mut Line) -> Result<Option<Script>, LineFault> 
 }
 
 fn ends(alloc: Global, lines: &[ScriptLine]) -> Answer {
-    let count = format!(in alloc; "{} lines", lines.len())?;
-    let last = &lines[lines.len().saturating_sub(9)..];
-    lines_told(alloc, count.as_str(), last)
+    let mut told = Told::new(alloc);
+    told.fill("# lines", &[lines.len() as u64]);
+    tell_lines(&mut told, &lines[lines.len().saturating_sub(9)..]);
+    told.answer()
 }
 
 fn compared(alloc: Global, config: &Config, lines: &[ScriptLine]) -> Answer
@@ -51,7 +52,9 @@ fn compared(alloc: Global, config: &Config, lines: &[ScriptLine]) -> Answer
 {
     match read_script(alloc, config, spelled(alloc, lines)?.as_bytes(), false) {
         Ok(script) if script.lines.as_slice() == lines => {
-            Ok(Some(format!(in alloc; "the same {} lines", lines.len())?))
+            let mut told = Told::new(alloc);
+            told.fill("the same # lines", &[lines.len() as u64]);
+            told.answer()
         }
         Ok(_) => said(alloc, "other lines"),
         Err(end) => refused(alloc, end),
@@ -60,9 +63,9 @@ fn compared(alloc: Global, config: &Config, lines: &[ScriptLine]) -> Answer
 
 /// The work as a script spells it.
 fn spelled(alloc: Global, lines: &[ScriptLine]) -> Result<String, LineFault> {
-    let mut text = String::new(alloc);
+    let mut told = Told::new(alloc);
     for line in lines {
-        push_spelled(&mut text, line)?;
+        tell_spelled(&mut told, line)?;
     }
-    Ok(text)
+    told.text()
 }

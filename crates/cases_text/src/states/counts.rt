@@ -2,8 +2,7 @@
 ghost use Rattle.std.specs.Prelude.{IfOk};
 ghost use Rattle.ps_config.specs.Sound.{IsFew};
 
-use crate::texts::push_number;
-use case_lines::{Line, LineFault, parted};
+use case_lines::{LineFault, Told, number, parted};
 use ps_config::{Config, read_config};
 use std::alloc::Global;
 
@@ -13,9 +12,11 @@ pub fn config_with(alloc: Global, counts: &str) -> Result<Config, LineFault>
     ensures { IfOk result IsFew }
 {
     let (writers, readers) = parted(counts, '/')?;
-    let mut text = String::from_str(alloc, DATA_SET)?;
-    push_half(alloc, &mut text, &Line::new(writers), GROUP, WRITER)?;
-    push_half(alloc, &mut text, &Line::new(readers), READ_GROUP, READER)?;
+    let mut told = Told::new(alloc);
+    told.say(DATA_SET);
+    tell_half(&mut told, writers, GROUP, WRITER)?;
+    tell_half(&mut told, readers, READ_GROUP, READER)?;
+    let text = told.text()?;
     match read_config(alloc, text.as_bytes()) {
         Ok(config) => Ok(config),
         Err(_) => Err(LineFault::Condition),
@@ -36,30 +37,16 @@ const READ_GROUP: &str = "[[readgroup]]\nname=\"rg#\"\npublisher=\"u8:5\"\n";
 const READER: &str = "[[readgroup.reader]]\nname=\"r#\"\nwriter=#\ndataset=\"d\"\n";
 
 /// A head with so many members for each count. Members are numbered over all heads.
-fn push_half(
-    alloc: Global,
-    text: &mut String,
-    counts: &Line,
-    head: &str,
-    member: &str,
-) -> Result<(), LineFault> {
+fn tell_half(told: &mut Told, counts: &str, head: &str, member: &str) -> Result<(), LineFault> {
     let mut heads = 0_u64;
     let mut members = 0_u64;
-    for word in counts.words() {
+    for word in counts.split_whitespace() {
         heads = heads.wrapping_add(1);
-        push_table(alloc, text, head, heads)?;
-        for _ in 0..Line::new(word).u8()? {
+        told.fill(head, &[heads, heads]);
+        for _ in 0..number::<u8>(word)? {
             members = members.wrapping_add(1);
-            push_table(alloc, text, member, members)?;
+            told.fill(member, &[members, members]);
         }
     }
-    Ok(())
-}
-
-fn push_table(alloc: Global, text: &mut String, table: &str, number: u64) -> Result<(), LineFault> {
-    let mut digits = String::new(alloc);
-    push_number(&mut digits, "", number)?;
-    let table = table.replace(alloc, "#", digits.as_str())?;
-    text.push_str(table.as_str())?;
     Ok(())
 }
