@@ -1,6 +1,6 @@
 //! The state that bytes are laid out as.
 ghost use Rattle.std.specs.Prelude.{◌≡◌, ◌≤◌, drop, length, take};
-ghost use Rattle.stored_state.specs.States.{words_in};
+ghost use Rattle.stored_state.specs.States.{IsState, words_in};
 
 use crate::state::StoredState;
 use byteorder::{ByteOrder, LittleEndian};
@@ -10,6 +10,7 @@ pub(crate) fn state_in(bytes: &[u8]) -> StoredState
     requires { length bytes.now ≡ 336 }
     ensures fingerprint { result.fingerprint ≡ take 32 (drop 8 bytes.now) }
     ensures words { result.words ≡ words_in 72 (drop 40 bytes.now) }
+    ensures state { IsState result }
 {
     let mut fingerprint = [0; 32];
     fingerprint.copy_from_slice(&bytes[8..40]);
