@@ -10,3 +10,7 @@ pub mod RowLists
 pub mod Sending
 pub mod Telling
 pub mod Tokens
+pub mod Begun
+pub mod Hashing
+pub mod Listened
+pub mod Over
