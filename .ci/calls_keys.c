@@ -80,6 +80,14 @@ static bool is_key_frame(const struct datagram *both, uint32_t group, uint64_t n
     return is_held;
 }
 
+// The last datagram that a read group accepted has this token and number; with neither it accepted none.
+static bool took_last(struct uap_handle *subscriber, uint32_t group, uint32_t token, uint32_t number) {
+    struct uap_last_taken last = {77, 77};
+    uint32_t status = uap_read_group_last_taken(subscriber, group, &last);
+    if (token == 0) return status == UAP_NONE && last.token == 77 && last.number == 77;
+    return status == UAP_OK && last.token == token && last.number == number;
+}
+
 // What is first sent under a new token is a key frame, in the groups of the key group whose token it is, and the numbers begin at 1.
 static void check_new_tokens(void) {
     struct uap_handle publisher = UAP_CLOSED_HANDLE, subscriber = UAP_CLOSED_HANDLE;
@@ -95,6 +103,7 @@ static void check_new_tokens(void) {
         {{false, false}, {16, 6}, {2, 3}},
     };
     open_sides(&publisher, &subscriber, two_keys);
+    DEMAND(took_last(&subscriber, LONG_GROUP, 0, 0) && took_last(&subscriber, SHORT_GROUP, 0, 0));
     for (uint32_t i = 0; i < sizeof expected / sizeof *expected; i++) {
         uint64_t now = 100 * (i + 1);
         turn(&publisher, now, i, both);
@@ -102,6 +111,10 @@ static void check_new_tokens(void) {
             DEMAND(is_under(&both[group], expected[i].tokens[group], expected[i].numbers[group]));
             DEMAND(is_key_frame(both, group, now, i) == expected[i].is_key[group]);
             DEMAND(takes(&subscriber, group, now, &both[group]) && reads(&subscriber, group, i));
+            DEMAND(took_last(&subscriber, group, expected[i].tokens[group], expected[i].numbers[group]));
+            // one that comes again is refused, and is none that was accepted
+            DEMAND(answer(&subscriber, group, now, &both[group]) == UAP_REPEATED);
+            DEMAND(took_last(&subscriber, group, expected[i].tokens[group], expected[i].numbers[group]));
         }
     }
     DEMAND(has_waited(&subscriber, LONG_GROUP, UAP_WHY_NEW_TOKEN) && has_waited(&subscriber, SHORT_GROUP, UAP_WHY_NEW_TOKEN));

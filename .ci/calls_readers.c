@@ -190,6 +190,9 @@ static void check_received(void) {
     // behind a cut nothing is missing
     DEMAND(uap_subscriber_expire(&subscriber, 2000) == UAP_OK && came(&subscriber, 2001, KEY("20", "0a")) == UAP_OK);
     DEMAND(has_received(&subscriber, 4, 4, 2001));
+    // an unsecured read group accepts nothing under a security header
+    struct uap_last_taken last = {77, 77};
+    DEMAND(uap_read_group_last_taken(&subscriber, OPEN, &last) == UAP_NONE && last.token == 77);
     // one that can't be read isn't taken
     DEMAND(came(&subscriber, 2010, KEY("21", "0a") " 01") == UAP_OK && has_received(&subscriber, 4, 4, 2001));
     DEMAND(uap_close(&subscriber) == UAP_OK);

@@ -257,10 +257,13 @@ class Keys(OverSides):
         publisher.renew("keys", sets)
         subscriber.renew("readers", sets)
         tokens = []
+        self.assertIsNone(subscriber.last_taken("readers"))
         for now in (100, 200, 300, 400):
             for datagram in publisher.datagrams(now):
                 self.assertEqual(subscriber.take(datagram, now)[0].matched, 1)
             tokens.append(publisher.standing("keys").token)
+            taken = subscriber.last_taken("readers")
+            self.assertEqual((taken.token, taken.number), publisher.standing("keys"))
         self.assertEqual(tokens, [7, 7, 8, 8])
 
     def test_a_spent_token(self):
