@@ -1,5 +1,10 @@
 use Rattle.std.proofs.Common.{refl, sym, ap, ◌∙◌, subst, arith, Option, ℕ, List}
+use Rattle.std.specs.Prelude.{Ok}
+use Rattle.message_guard.specs.declared.guard.Guard.{Guard}
 use Rattle.message_guard.specs.declared.keys.TokenKeys.{TokenKeys}
+use Rattle.message_guard.specs.Guards.{HasAccepted, TellsRaise, setup_of}
+use Rattle.reader_group.specs.declared.opening.Buffers.{Buffers}
+use Rattle.reader_group.specs.Begun.{LeavesBytes, OpensBy, payload_held}
 use Rattle.std.proofs.lemmas.List.{with_items_is}
 use Rattle.reader_group.specs.Held.{payload_in}
 use Rattle.reader_group.specs.Groups.{AreMembers, Stands, guard_of, members_of, index_of, setting_with}
@@ -10,7 +15,7 @@ use Rattle.reader_group.proofs.Noticing.{taken_notices}
 use Rattle.reader_group.proofs.Seats.{few_readers, seats-length}
 use Rattle.reader_group.proofs.Steps.{IsTaken, bytes-are, receipt_with, made_readers, stands_part, taken_step, taken_answer}
 use Rattle.reader_group.proofs.group.ReaderGroup.take.Goals as goal
-use Rattle.reader_group.proofs.group.ReaderGroup.take.Goals.{After-self-3-1}
+use Rattle.reader_group.proofs.group.ReaderGroup.take.Goals.{After-self-4-1}
 
 pub part_count-requires : goal.part_count-requires
 part_count-requires c =
@@ -22,7 +27,7 @@ part_count-requires c =
     omega (arith, c.requires.on, readers.count, seats-length config part, few_readers config part c.requires.made.sound has)
 
 -- what the calls ensured of a datagram that was opened
-taken : (c : After-self-3-1) (keys : List TokenKeys) (plain : PlainGroup) → Stands (setting_with c.args.config.now c.args.self.now keys) plain c.args.self.now
+taken : (c : After-self-4-1) (keys : List TokenKeys) (plain : PlainGroup) → Stands (setting_with c.args.config.now c.args.self.now keys) plain c.args.self.now
     → IsTaken (with_keys (setting_by c.args.config.now c.part_at-part.result.now) keys) plain c.args.now c.args.on.now c.args.bytes.now c.open.new.bytes (guard_of c.args.self.now) c.accept-raised.new.self
     (members_of c.args.self.now) c.feed_all-tally.new.members c.in_ok-begun.begun c.open.new.room c.accept-raised.result (receipt_with c.args.now c.stamp_of.result)
     (payload_in c.payload_held-payload.result) c.feed_all-tally.result
@@ -32,16 +37,24 @@ taken c keys plain h =
     let part = c.part_at-part.result.now in
     let seats = (setting_by config part).seats in
     let before = stands_part config group part keys plain c.requires.made c.part_at-part.ensures h in
-    let members : AreMembers seats plain.members c.deref_mut.result.now = subst (AreMembers seats plain.members) (sym c.deref_mut.ensures.value) before.members in
+    let members : AreMembers seats plain.members c.deref_mut-3.result.now = subst (AreMembers seats plain.members) (sym c.deref_mut-3.ensures.value) before.members in
+    let begun = c.in_ok-begun.begun in
+    let bytes = c.open.new.bytes in
+    let opens : OpensBy part (guard_of group) c.args.bytes.now (Ok begun) c.open.new.room bytes =
+    subst (λ (g : Guard). OpensBy part g c.args.bytes.now (Ok begun) c.open.new.room bytes) c.deref.ensures c.in_ok-begun.ensures.verdict in
+    let accepted : HasAccepted (guard_of group) begun.pass c.accept-raised.new.self =
+    subst (λ (g : Guard). HasAccepted g begun.pass c.accept-raised.new.self) c.deref_mut-2.ensures.value c.accept-raised.ensures.accepted in
+    let raised : TellsRaise (guard_of group) begun.pass c.accept-raised.result =
+    subst (λ (g : Guard). TellsRaise g begun.pass c.accept-raised.result) c.deref_mut-2.ensures.value c.accept-raised.ensures.raised in
     record {
-      opens = c.in_ok-begun.ensures.verdict plain.accepted before.guard;
-      held = c.payload_held-payload.ensures;
+      opens = opens plain.accepted before.guard;
+      held = c.payload_held-payload.ensures ∙ ap (λ (room : Buffers). payload_held part.layout begun room bytes) c.deref-2.ensures;
       receipt_is = ap (λ (stamp : Option ℕ). receipt_with c.args.now stamp) c.stamp_of.ensures;
       setup = before.setup;
-      setup_stays = c.accept-raised.ensures.setup;
+      setup_stays = c.accept-raised.ensures.setup ∙ ap setup_of c.deref_mut-2.ensures.value;
       mode = setup-mode config part part.keygroup;
-      accepts_it = c.accept-raised.ensures.accepted plain.accepted before.guard;
-      raised_is = c.accept-raised.ensures.raised plain.accepted before.guard;
+      accepts_it = accepted plain.accepted before.guard;
+      raised_is = raised plain.accepted before.guard;
       members_are = c.feed_all-tally.ensures.members plain.members members;
       tally_is = c.feed_all-tally.ensures.tally plain.members members;
     }
@@ -65,11 +78,13 @@ returns-clause-answer c = λ keys plain h.
 
 pub returns-in_err-begun-clause-bytes : goal.returns-in_err-begun-clause-bytes
 returns-in_err-begun-clause-bytes c = λ keys plain h.
-    bytes-are c.args.config.now c.args.self.now c.part_at-part.result.now keys plain c.args.bytes.now c.open.new.bytes c.requires.made c.part_at-part.ensures h c.in_err-begun.ensures.bytes
+    bytes-are c.args.config.now c.args.self.now c.part_at-part.result.now keys plain c.args.bytes.now c.open.new.bytes c.requires.made c.part_at-part.ensures h
+    (subst (λ (g : Guard). LeavesBytes c.part_at-part.result.now g c.args.bytes.now c.open.new.bytes) c.deref.ensures c.in_err-begun.ensures.bytes)
 
 pub returns-clause-bytes : goal.returns-clause-bytes
 returns-clause-bytes c = λ keys plain h.
-    bytes-are c.args.config.now c.args.self.now c.part_at-part.result.now keys plain c.args.bytes.now c.open.new.bytes c.requires.made c.part_at-part.ensures h c.in_ok-begun.ensures.bytes
+    bytes-are c.args.config.now c.args.self.now c.part_at-part.result.now keys plain c.args.bytes.now c.open.new.bytes c.requires.made c.part_at-part.ensures h
+    (subst (λ (g : Guard). LeavesBytes c.part_at-part.result.now g c.args.bytes.now c.open.new.bytes) c.deref.ensures c.in_ok-begun.ensures.bytes)
 
 pub returns-clause-notices : goal.returns-clause-notices
 returns-clause-notices c = λ keys plain h k within.
@@ -78,7 +93,7 @@ returns-clause-notices c = λ keys plain h k within.
     let part = c.part_at-part.result.now in
     let seats = (setting_by config part).seats in
     let before = stands_part config old part keys plain c.requires.made c.part_at-part.ensures h in
-    let members : AreMembers seats plain.members c.deref_mut.result.now = subst (AreMembers seats plain.members) (sym c.deref_mut.ensures.value) before.members in
+    let members : AreMembers seats plain.members c.deref_mut-3.result.now = subst (AreMembers seats plain.members) (sym c.deref_mut-3.ensures.value) before.members in
     taken_notices config old part keys plain c.args.now c.args.on.now c.args.bytes.now c.open.new.bytes c.accept-raised.new.self c.feed_all-tally.new.members c.in_ok-begun.begun c.open.new.room
     c.accept-raised.result (receipt_with c.args.now c.stamp_of.result) (payload_in c.payload_held-payload.result) c.feed_all-tally.result old.notices c.feed_all-tally.new.notices k
     c.requires.made c.part_at-part.ensures (taken c keys plain h) (λ inside. c.feed_all-tally.ensures.notices plain.members members k inside) within
