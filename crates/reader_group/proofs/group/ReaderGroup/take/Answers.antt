@@ -8,9 +8,6 @@ use Rattle.reader_group.specs.Begun.{LeavesBytes, Opens, payload_held}
 use Rattle.reader_group.specs.Opening.{verdict}
 use Rattle.reader_group.specs.declared.opening.Buffers.{Buffers}
 use Rattle.message_guard.specs.declared.keys.TokenKeys.{TokenKeys}
-use Rattle.message_guard.specs.Guards.{HasAccepted, TellsRaise, setup_of}
-use Rattle.reader_group.specs.declared.opening.Buffers.{Buffers}
-use Rattle.reader_group.specs.Begun.{LeavesBytes, OpensBy, payload_held}
 use Rattle.std.proofs.lemmas.List.{with_items_is}
 use Rattle.reader_group.specs.Held.{payload_in}
 use Rattle.reader_group.specs.Groups.{AreMembers, Stands, guard_of, members_of, index_of, setting_with}
