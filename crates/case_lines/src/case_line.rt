@@ -2,8 +2,8 @@
 use crate::answered::Answer;
 use crate::fault::LineFault;
 use crate::line::Line;
-use crate::named::named;
 use crate::parsed::number;
+use crate::tables::named;
 use std::alloc::Global;
 use std::str::{FromStr, SplitWhitespace};
 

@@ -1,7 +1,7 @@
 //! Kinds and values from words.
 use crate::fault::LineFault;
 use crate::line::Line;
-use crate::named::named;
+use crate::tables::named;
 use std::alloc::Global;
 use std::str::FromStr;
 use ua_values::{Blob, Kind, Text, Value};

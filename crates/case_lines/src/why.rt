@@ -1,6 +1,6 @@
 //! Why a reader waits.
 use crate::fault::LineFault;
-use crate::named::named;
+use crate::tables::named;
 use pubsub_model::Why;
 
 static REASONS: [(&str, Why); 6] = [

@@ -86,13 +86,13 @@ impl<R> Answers<R> for Bench {
             Call::Ends => work::told(alloc, line, false),
             Call::Words => states::words(alloc),
             Call::States(call) => states::answer(alloc, call, line.rest()),
-            Call::Configured(call) => configured(alloc, self.document.as_str(), call, line),
+            Call::Configured(call) => with_config(alloc, self.document.as_str(), call, line),
         }
     }
 }
 
 /// What a call answers that speaks of the configuration.
-fn configured(alloc: Global, document: &str, call: Configured, line: &mut CaseLine) -> Answer {
+fn with_config(alloc: Global, document: &str, call: Configured, line: &mut CaseLine) -> Answer {
     let config = config_of(alloc, document)?;
     match call {
         Configured::Play => scripts::read(alloc, &config, &line.text(alloc), true),

@@ -35,7 +35,7 @@ pub fn answer(alloc: Global, call: Call, text: &str) -> Answer {
     }
 }
 
-static STATES: [State; 5] = [
+static ALL_STATES: [State; 5] = [
     State::Disabled,
     State::Paused,
     State::Operational,
@@ -46,7 +46,7 @@ static STATES: [State; 5] = [
 /// Each state's number and word.
 pub fn words(alloc: Global) -> Answer {
     let mut told = Told::new(alloc);
-    for state in &STATES {
+    for state in &ALL_STATES {
         told.apart(" ");
         told.fill("#=", &[state.number() as u64]);
         told.show(state);
