@@ -14,12 +14,12 @@ loop-keygroup-preserved c =
     let i = c.loop-keygroup.keygroup-index in
     let so_far = c.loop-keygroup.senders.items in
     let part = c.keygroup-item.result in
-    let sender = c.sender_with.result in
+    let sender = c.sender_with-sender.result in
     let opening : IsOpeningSender part sender =
-    subst (λ (sets : List KeySet). IsResumed part sets 0 part.used sender) c.ring_of-ring.ensures.keys c.sender_with.ensures.resumed in
+    subst (λ (sets : List KeySet). IsResumed part sets 0 part.used sender) c.ring_of.ensures.keys c.sender_with-sender.ensures.resumed in
     record {
       senders = subst (λ (l : List SenderState). All IsSender l) (sym c.in_ok-push.ensures.items)
-          (All-push IsSender so_far sender c.loop-keygroup.invariant.senders c.sender_with.ensures.sender);
+          (All-push IsSender so_far sender c.loop-keygroup.invariant.senders c.sender_with-sender.ensures.sender);
       opening = subst (AllZip IsOpeningSender (take (i + 1) parts)) (sym c.in_ok-push.ensures.items)
           (zip-more IsOpeningSender parts so_far i part sender (omega arith) c.keygroup-item.is c.loop-keygroup.invariant.opening opening);
       count = ap length c.in_ok-push.ensures.items ∙ length-append so_far (sender ∷ []) ∙ ap (λ n. n + 1) c.loop-keygroup.invariant.count;
