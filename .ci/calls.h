@@ -25,8 +25,6 @@ void check_memory(void);
 void check_own(void);
 void check_readers(void);
 void check_refusals(void);
-void check_storing(void);
-void check_taking_all(void);
 
 // ---- datagrams
 

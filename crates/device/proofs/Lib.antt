@@ -10,7 +10,3 @@ pub mod RowLists
 pub mod Sending
 pub mod Telling
 pub mod Tokens
-pub mod Begun
-pub mod Hashing
-pub mod Listened
-pub mod Over

@@ -31,7 +31,7 @@ use Rattle.device.proofs.Sending.{no_sender}
 same-less : (s : SenderState) → IsNoLess s s
 same-less s = inr (refl, omega arith)
 
-pub less-less : (a b c : SenderState) → IsNoLess a b → IsNoLess b c → IsNoLess a c
+less-less : (a b c : SenderState) → IsNoLess a b → IsNoLess b c → IsNoLess a c
 less-less a b c (inl one) (inl other) = inl (omega (arith, one, other))
 less-less a b c (inl one) (inr other) = let token = other.0 in inl (omega (arith, one, token))
 less-less a b c (inr one) (inl other) = let token = one.0 in inl (omega (arith, token, other))
@@ -46,7 +46,7 @@ turned-less-by : (s : SenderState) (set : Option KeySet) → IsNoLess s (turned_
 turned-less-by s None = same-less s
 turned-less-by s (Some set) = turned-set s set (nat_lt s.keys.token set.token) refl
 
-pub turned-less : (now : ℕ) (s : SenderState) → IsNoLess s (turned s now)
+turned-less : (now : ℕ) (s : SenderState) → IsNoLess s (turned s now)
 turned-less now s = turned-less-by s (current s.sets now)
 
 advanced-keys : (mode : Mode) (s : SenderState) (count : ℕ) → (advanced_by mode s count).keys ≡ s.keys
@@ -140,14 +140,14 @@ never-falls (call ∷ calls) old new are =
 
 -- ---- numbers
 
-pub never-at : (old new : List SenderState) (k : ℕ) (d : SenderState) → FallBackNever old new → IsNoLess (get_or old k d) (get_or new k d)
+never-at : (old new : List SenderState) (k : ℕ) (d : SenderState) → FallBackNever old new → IsNoLess (get_or old k d) (get_or new k d)
 never-at [] [] k d never = same-less d
 never-at [] (y ∷ new) k d never = absurd never
 never-at (x ∷ old) [] k d never = absurd never
 never-at (x ∷ old) (y ∷ new) zero d never = never.0
 never-at (x ∷ old) (y ∷ new) (suc k) d never = never-at old new k d never.1
 
-pub apart : (one two : SenderState) (pair other : ℕ × ℕ) → IsNoLess one two → pair.0 ≡ one.keys.token → pair.1 ≤ one.used → other.0 ≡ two.keys.token → two.used < other.1 → pair ≢ other
+apart : (one two : SenderState) (pair other : ℕ × ℕ) → IsNoLess one two → pair.0 ≡ one.keys.token → pair.1 ≤ one.used → other.0 ≡ two.keys.token → two.used < other.1 → pair ≢ other
 apart one two pair other (inl lower) token low later high same =
     let both : pair.0 ≡ other.0 = ap (λ (p : ℕ × ℕ). p.0) same in absurd (omega (arith, lower, token, later, both))
 apart one two pair other (inr equal) token low later high same =

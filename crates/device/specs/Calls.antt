@@ -9,9 +9,6 @@ use Rattle.device.specs.declared.asked.Next.TheVariants.{Datagram}
 use Rattle.device.specs.declared.publisher.Publisher.{Publisher}
 use Rattle.device.specs.Coming.{ComesTo, HasCome}
 use Rattle.device.specs.Resuming.{IsBehind}
-use Rattle.device.specs.Storing.{HasRestored, IsCovered}
-use Rattle.stored_state.specs.declared.state.StoredState.{StoredState}
-use Rattle.stored_state.specs.States.{IsState, written}
 use Rattle.device.specs.Sides.{HasRenewed, IsNoLess}
 
 -- it comes to a moment, a key group is renewed, or goes on behind so many numbers; or all senders stay
@@ -56,14 +53,6 @@ Gives keygroup Other old new pair = ⊥
 abbrev pub GiveOthers : ℕ → Call → List Call → Call → Type 0
 GiveOthers keygroup first calls last =
     (one two three four : Publisher) (pair other : ℕ × ℕ) → Gives keygroup first one two pair → AreCalled calls two three → Gives keygroup last three four other → pair ≢ other
-
--- The same over a restart. The first call, and these behind it, are of one life. Then a datagram is handed over, and the state that is stored covers the key group's sender:
--- so whichever calls came after, no datagram of them was. The other life begins as its publisher is restored from that state's bytes, and has the calls behind that.
-abbrev pub GiveOthersOver : ℕ → Call → List Call → List Call → Call → Type 0
-GiveOthersOver keygroup first calls later last =
-    (one two ended opened begun three four : Publisher) (state : StoredState) (now : ℕ) (pair other : ℕ × ℕ) → Gives keygroup first one two pair → AreCalled calls two ended
-    → IsState state → IsCovered state keygroup ended.senders.items → HasRestored (written state) now opened begun → keygroup < length opened.senders.items
-    → length opened.senders.items ≡ length opened.config.keygroup → AreCalled later begun three → Gives keygroup last three four other → pair ≢ other
 
 -- ---- the numbers of a turn
 

@@ -6,7 +6,3 @@ pub mod Raising
 pub mod Readings
 pub mod Resuming
 pub mod Sides
-pub mod Beginning
-pub mod Fingerprints
-pub mod Storing
-pub mod Taking

@@ -1,7 +1,7 @@
 //! Laws of publishers, each the contract of a function that does nothing.
 ghost use Rattle.std.specs.Prelude.{ℕ, List};
 ghost use Rattle.device.specs.declared.publisher.Publisher.{Publisher};
-ghost use Rattle.device.specs.Calls.{AreCalled, Call, FallBackNever, GiveOthers, GiveOthersOver, GivesEach};
+ghost use Rattle.device.specs.Calls.{AreCalled, Call, FallBackNever, GiveOthers, GivesEach};
 
 /// Over any list of calls of a publisher no sender of a key group falls back: its token is never lower, and under the same token
 /// neither is the number that was used last. So the numbers of a turn, which are those that follow it (`HasNumbered`), are given
@@ -22,11 +22,4 @@ pub fn a_token_and_number_is_given_once()
 /// and each other the next. So `Gives` leaves none out.
 pub fn each_datagram_of_a_turn_is_given_its_number()
     ensures { (keygroup now : ℕ) (old new : Publisher) → GivesEach keygroup now old new }
-{}
-
-/// Nor does a call after a restart: where a publisher was restored from bytes whose state covered the key group's sender as the last
-/// datagram was handed over, no call after that gives a datagram of the key group a token and a number that a call before gave one.
-pub fn a_restored_life_gives_no_number_again()
-    ensures { (keygroup : ℕ) (first : Call) (calls later : List Call) (last : Call)
-        → GiveOthersOver keygroup first calls later last }
 {}

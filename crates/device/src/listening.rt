@@ -21,7 +21,6 @@ use pubsub_model::Why;
 use reader_group::{Notice, ReaderGroup, Refusal, Taken};
 use std::alloc::Global;
 use ua_base::NoMemory;
-use uadp_header::{Header, HeaderFault};
 
 /// A read group, whose readers are all on at first, with its place in the configuration.
 #[derive(Drop)]
@@ -34,8 +33,7 @@ pub struct Listening {
 }
 
 impl Listening {
-    ghost use Rattle.std.specs.Prelude.{◌≡◌, ◌<◌, ◌≤◌, ℕ, length, map, Err, IfOk, IfNone, IfSome, None, Some, false, true};
-    ghost use Rattle.uadp_header.specs.Reading.{GivesHeader};
+    ghost use Rattle.std.specs.Prelude.{◌≡◌, ◌<◌, ◌≤◌, length, map, IfOk, IfNone, IfSome, None, Some, false, true};
 
     /// The read group with this index, before anything.
     pub fn new(alloc: Global, config: &Config, index: u8) -> Result<Listening, NoMemory>
@@ -70,27 +68,6 @@ impl Listening {
     {
         self.group
             .datagram_of_number(config, self.number, now, &self.on, bytes)
-    }
-
-    /// It refuses the datagram for what was read of its header, if that is enough (`ReaderGroup::refuse`).
-    pub fn refuse(
-        &mut self,
-        config: &Config,
-        bytes: &[u8],
-        read: &Result<(Header<'_>, usize), HeaderFault>,
-    ) -> Option<Refusal>
-        requires listening { IsListening config.now self.old }
-        requires read { GivesHeader read.now bytes.now }
-        ensures listening { IsListening config.now self.new }
-        ensures had { IfSome result (λ refusal. (now : ℕ)
-            → HadIf (takes_number self.old.number bytes.now) config.now
-            self.old.group self.new.group now self.old.on.items bytes.now bytes.now (Err refusal)) }
-        ensures refused { IfSome result (λ refusal.
-            NotesRefusal (Err refusal) bytes.now self.old self.new) }
-        ensures none { IfNone result (self.new ≡ self.old) }
-        ensures rest { self.new ≡ record self.old { group = self.new.group } }
-    {
-        self.group.refuse(config, self.number, bytes, read)
     }
 
     /// Time goes on to this moment, in milliseconds (`ReaderGroup::expire`).

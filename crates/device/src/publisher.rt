@@ -13,7 +13,6 @@ ghost use Rattle.device.specs.Due.{IsCalm, IsDue, IsSpentAt, TellsFirst};
 ghost use Rattle.device.specs.Looking.{Counts, HasLooked, IsFrom};
 ghost use Rattle.device.specs.Resuming.{IsBehind, IsBehindConfigured, IsEarlier, MayNotResume, MayNotResumeConfigured};
 ghost use Rattle.device.specs.Sides.{AreOpeningSides, FitsKeyGroup, HasField, HasLongKeys, HasNoField, HasNoScalar, HasNoWriter, HasRenewed, HasSet, HasSetStatus, HasSetWord, HasWriterSwitched, IsMisfit, IsNoLower, IsOpeningRow, IsOpeningSender, IsPublisher, IsRowAt, IsStatusMisfit, IsWordMisfit, RowIs, StandsAt};
-ghost use Rattle.device.specs.Storing.{no_storing};
 
 use crate::asked::Next;
 use crate::due::{earlier, groups_due, keys_due};
@@ -22,7 +21,6 @@ use crate::making::{copy_of, has_long_keys, rings_of, rows_of, sender_with, send
 use crate::rows::{field_in, set_in, set_status_in, set_word_in, word_in};
 use crate::side::Side;
 use crate::sides::{refresh_with, turn_senders};
-use crate::storing::Storing;
 use crate::words::has_field_at;
 use group_keys::Ring;
 use message_guard::Sender;
@@ -51,8 +49,6 @@ pub struct Publisher {
     /// How many there are, and how many of them were handed over.
     pub made: u32,
     pub handed: u32,
-    /// How far numbers are stored.
-    pub storing: Storing,
 }
 
 impl Publisher {
@@ -68,7 +64,6 @@ impl Publisher {
         ensures sides { IfOk result (λ publisher.
             AreOpeningSides publisher.config publisher.sides.items) }
         ensures none_waits { IfOk result (λ publisher. publisher.made ≡ 0) }
-        ensures stores_none { IfOk result (λ publisher. publisher.storing ≡ no_storing) }
         ensures refused { IfErr result (IsEnd (configuration text.now)) }
     {
         let config = read_config(alloc, text)?;
@@ -214,7 +209,6 @@ impl Publisher {
         ensures waits { result ≡ Next.Datagram → self.new.handed < self.new.made }
         ensures waited { self.old.handed < self.old.made → IsWaiting result self.old self.new }
         ensures came { self.old.made ≤ self.old.handed → HasCome now result self.old self.new }
-        ensures storing { self.new.storing ≡ self.old.storing }
     {
         if self.is_waiting() {
             return Next::Datagram;
@@ -403,7 +397,6 @@ impl Publisher {
         ensures waits { result ≡ Next.Datagram → self.new.handed < self.new.made }
         ensures config { self.new.config ≡ self.old.config }
         ensures rows { self.new.rows.items ≡ self.old.rows.items }
-        ensures storing { self.new.storing ≡ self.old.storing }
         ensures came { Comes now result self.old.senders.items self.old.sides.items self.new }
     {
         let mut held = false;
@@ -423,7 +416,6 @@ impl Publisher {
         requires index { index < length self.old.sides.items }
         ensures publisher { IsPublisher self.new }
         ensures looked { HasLooked index now result self.old self.new }
-        ensures storing { self.new.storing ≡ self.old.storing }
     {
         let from = self.sides[index].index;
         let looked = look(
@@ -477,7 +469,6 @@ fn publisher_of(alloc: Global, config: Config) -> Result<Publisher, NoMemory>
         AllZip IsOpeningSender config.keygroup publisher.senders.items) }
     ensures sides { IfOk result (λ publisher. AreOpeningSides config publisher.sides.items) }
     ensures none_waits { IfOk result (λ publisher. publisher.made ≡ 0) }
-    ensures stores_none { IfOk result (λ publisher. publisher.storing ≡ no_storing) }
 {
     let rows = rows_of(alloc, config.dataset.as_slice())?;
     let senders = senders_of(alloc, config.keygroup.as_slice())?;
@@ -494,12 +485,11 @@ fn publisher_of(alloc: Global, config: Config) -> Result<Publisher, NoMemory>
         from: 0,
         made: 0,
         handed: 0,
-        storing: Storing::none(),
     })
 }
 
 /// Whether no number of the second standing comes again behind the first one, each a token and the number used last under it.
-pub(crate) fn is_behind(new: (u32, u32), old: (u32, u32)) -> bool
+fn is_behind(new: (u32, u32), old: (u32, u32)) -> bool
     ensures { IsTrue result ↔ IsNoLower old new }
 {
     let (token, used) = new;

@@ -4,7 +4,7 @@ ghost use Rattle.std.specs.Bool.{OnFalse, OnTrue};
 ghost use Rattle.message_guard.specs.Senders.{IsSender};
 ghost use Rattle.ps_config.specs.declared.parts.Config.{Config as ConfigValue};
 ghost use Rattle.writer_group.specs.Parts.{group_at};
-ghost use Rattle.writer_group.specs.Standing.{AreRowsOf, IsGood, IsReserved, KeepsTo, TellsDue, TellsMoment, TellsNextNumber, index_of, writer_count};
+ghost use Rattle.writer_group.specs.Standing.{AreRowsOf, IsGood, IsReserved, KeepsTo, TellsDue, TellsMoment, index_of, writer_count};
 ghost use Rattle.device.specs.Coming.{AreRefreshed, all_writers};
 ghost use Rattle.device.specs.Due.{HasTurnDue, SitsOut, TellsFirst};
 ghost use Rattle.device.specs.Sides.{HasComeOn, HasNumbered, HasSwitched, HasTurned, HasWriter, IsOpeningSide, IsSide, MayNotTurn, MayTurn, numbered, sender_for};
@@ -79,19 +79,6 @@ impl Side {
             return false;
         }
         index < part_of(config, self.index).writer.as_slice().len()
-    }
-
-    /// The number that the next data frame of the writer with this index takes (`Group::next_number`). None where there is no such
-    /// writer.
-    pub fn next_number(&self, config: &Config, writer: u8) -> Option<u16>
-        requires { IsSide config.now self.now }
-        ensures number { IfSome result (TellsNextNumber self.now.group writer) }
-        ensures none { IfNone result (¬ HasWriter writer self.now) }
-    {
-        if !self.has_writer(config, writer) {
-            return None;
-        }
-        Some(self.group.next_number(writer))
     }
 
     /// Switches the writer with this index on or off.

@@ -16,5 +16,3 @@ pub mod Owning
 pub mod Reading
 pub mod Setting
 pub mod Switching
-pub mod Storing
-pub mod Taking

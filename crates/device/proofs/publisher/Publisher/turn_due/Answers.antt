@@ -16,7 +16,6 @@ loop-g-init c =
       config = refl;
       rows = refl;
       senders = refl;
-      storing = refl;
       count = refl;
       far = none-so-far (Does old.config c.args.now old.rows.items old.senders.items) old.sides.items;
     }
@@ -50,7 +49,6 @@ loop-g-preserved c =
       config = looked.config ∙ invariant.config;
       rows = looked.rows ∙ invariant.rows;
       senders = looked-stay c.loop-g.g c.args.now c.look_at-looked.result c.loop-g.self c.look_at-looked.new.self low_mid passed looked ∙ invariant.senders;
-      storing = c.look_at-looked.ensures.storing ∙ invariant.storing;
       count = far.0 ∙ invariant.count;
       far = far.1;
     }

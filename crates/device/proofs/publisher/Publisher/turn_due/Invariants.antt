@@ -11,7 +11,6 @@ invariant-loop-g l = record {
   config : l.self.config ≡ l.fn.self.config;
   rows : l.self.rows.items ≡ l.fn.self.rows.items;
   senders : l.self.senders.items ≡ l.fn.self.senders.items;
-  storing : l.self.storing ≡ l.fn.self.storing;
   count : length l.self.sides.items ≡ length l.fn.self.sides.items;
   far : SoFar (Does l.fn.self.config l.now l.fn.self.rows.items l.fn.self.senders.items) l.g l.held l.fn.self.sides.items l.self.sides.items;
 }
