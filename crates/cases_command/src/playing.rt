@@ -52,7 +52,10 @@ fn report_of<R: Wait, L: Link>(
 fn refused_config(alloc: Global, code: u8, place: &str) -> Answer {
     let mut told = Told::new(alloc);
     told.fill("config: C# ", &[code as u64]);
-    told.say(Fault::numbered(code).map_or("", |fault| fault.name()));
+    told.say(match Fault::numbered(code) {
+        Some(fault) => fault.name(),
+        None => "",
+    });
     told.named(" ", Some(place));
     told.answer()
 }
