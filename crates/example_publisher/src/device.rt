@@ -87,10 +87,9 @@ impl Device<'_> {
         let (token, number) = self.sender.standing();
         let version = self.version;
         let Sends { done, failed } = self.sends;
-        let told = println!(rt;
+        println!(rt;
             "{moment}: version {version}, token {token}, number {number}, sent {done}, failed {failed}"
-        );
-        written(told)
+        ).map_err(unwritten)
     }
 }
 
@@ -158,10 +157,6 @@ fn send_all<L: Link>(out: &Datagrams, count: u32, link: &mut L, sends: &mut Send
     }
 }
 
-/// What became of the output.
-pub fn written(told: io::Result<()>) -> Result<(), Fault> {
-    match told {
-        Ok(()) => Ok(()),
-        Err(_) => Err(Fault::Unwritten),
-    }
+pub fn unwritten(_: io::Error) -> Fault {
+    Fault::Unwritten
 }
