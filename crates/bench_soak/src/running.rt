@@ -4,7 +4,7 @@ ghost use Rattle.writer_group.specs.Standing.{IsGood, IsReserved, datagrams_in};
 ghost use Rattle.bench_soak.specs.Sides.{IsRun};
 
 use crate::configuration::{INTERVAL, WRITERS};
-use crate::fault::{Fault, written};
+use crate::fault::{Fault, unwritten};
 use crate::publisher::Publisher;
 use crate::rows::sample;
 use crate::subscriber::Subscriber;
@@ -116,9 +116,8 @@ impl Run {
         let wraps = self.subscriber.wraps;
         let rollovers = self.publisher.rollovers;
         let renewals = self.publisher.renewals;
-        let told = println!(rt;
+        println!(rt;
             "turns {turns}, datagrams {datagrams}, rows {rows}, wraps {wraps}, rollovers {rollovers}, renewals {renewals}"
-        );
-        written(told)
+        ).map_err(unwritten)
     }
 }

@@ -22,8 +22,6 @@ mod renewing;
 #[cfg(test)]
 mod room;
 #[cfg(test)]
-mod same;
-#[cfg(test)]
 mod showing;
 #[cfg(test)]
 mod writing;

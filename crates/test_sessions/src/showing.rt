@@ -2,7 +2,6 @@
 ghost use Rattle.pubsub_engine.specs.Holding.{IsSession, plan_of};
 ghost use Rattle.test_sessions.specs.Devices.{IsSmall};
 
-use crate::same::same;
 use dataset_reader::Passed;
 use ps_report::LinkEnd;
 use pubsub_engine::Session;
@@ -45,8 +44,8 @@ pub(crate) fn shows<R: Abort>(rt: &R, session: &Session<'_>, want: Expected)
     requires session { IsSession session.now }
     requires small { IsSmall (plan_of session.now).config }
 {
-    same(rt, "moment", &session.moment(), &want.moment);
-    same(rt, "standing", &session.standing(0), &want.standing);
+    assert_eq!(rt; session.moment(), want.moment);
+    assert_eq!(rt; session.standing(0), want.standing);
     shows_counts(rt, session, want);
     shows_row(rt, session, want);
 }
@@ -57,10 +56,11 @@ fn shows_counts<R: Abort>(rt: &R, session: &Session<'_>, want: Expected)
     requires small { IsSmall (plan_of session.now).config }
 {
     let tally = session.tally(0);
-    same(rt, "taken", &tally.taken, &want.taken);
-    same(rt, "causes", &tally.causes, &refusals(want.unknown));
-    let came = want.taken.saturating_add(want.unknown);
-    same(rt, "link", &session.link(), &link_end(came, want.waiting));
+    assert_eq!(rt; tally.taken, want.taken);
+    let causes = refusals(want.unknown);
+    assert!(rt; tally.causes.as_slice() == causes.as_slice());
+    let link = session.link();
+    assert!(rt; link == link_end(want.taken.saturating_add(want.unknown), want.waiting));
 }
 
 /// The state of the reader, its row, what it passed over, and where its last store comes from.
@@ -72,20 +72,24 @@ fn shows_row<R: Abort>(rt: &R, session: &Session<'_>, want: Expected)
         read_group: 0,
         reader: 0,
     });
-    same(rt, "state", &state, &State::Operational);
+    assert_eq!(rt; state, State::Operational);
     let reader = session.reader(0, 0);
     let row = reader.row().expect(rt, "a row");
-    same(rt, "number", &reader.number(), &Some(want.number));
-    same(rt, "row", &row.words[0], &want.version);
+    assert_eq!(rt;
+        (reader.number(), row.words[0]),
+        (Some(want.number), want.version)
+    );
     let passed = Passed {
         older: want.older,
         ..Passed::default()
     };
-    same(rt, "passed", &reader.passed(), &passed);
+    assert_eq!(rt; reader.passed(), passed);
     let origin = session.origin(0);
-    same(rt, "stores", &origin.store, &want.stores);
-    same(rt, "stored number", &origin.number, &Some(want.number));
-    same(rt, "version", &origin.version, &want.told());
+    assert_eq!(rt;
+        (origin.store, origin.number),
+        (want.stores, Some(want.number))
+    );
+    assert_eq!(rt; origin.version, want.told());
 }
 
 /// So many refusals, each for a token that isn't known.
