@@ -309,6 +309,9 @@ public:
     }
     Result<uap_fault> last_fault(Reader at) const { return told<uap_fault>([&](uap_fault *it) { return uap_reader_last_fault(raw(), at.group, at.index, it); }); }
     Result<uap_passed> passed(Reader at) const { return told<uap_passed>([&](uap_passed *it) { return uap_reader_passed(raw(), at.group, at.index, it); }); }
+    Result<uap_received> received(Reader at) const { return told<uap_received>([&](uap_received *it) { return uap_reader_received(raw(), at.group, at.index, it); }); }
+    // The token and the number of the last datagram that a read group accepted under a security header.
+    Result<uap_last_taken> last_taken(std::uint32_t group) const { return told<uap_last_taken>([&](uap_last_taken *it) { return uap_read_group_last_taken(raw(), group, it); }); }
     Result<uap_refused> refused(std::uint32_t group) const { return told<uap_refused>([&](uap_refused *it) { return uap_read_group_refused(raw(), group, it); }); }
     Status enable(Reader it) { return uap_reader_enable(raw(), it.group, it.index); }
     Status disable(Reader it) { return uap_reader_disable(raw(), it.group, it.index); }
