@@ -197,7 +197,7 @@ fn frame_text(alloc: Global, meta: &Meta, frame: &Frame) -> Answer
         tell_changes(&mut told, meta, patch);
     }
     if let (Some(major), Some(minor)) = (frame.major, frame.minor) {
-        told.fill(" version #.#", &[major as u64, minor as u64]);
+        told.fill(" version #.#", &[u64::from(major), u64::from(minor)]);
     }
     told.answer()
 }
