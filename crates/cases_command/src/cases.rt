@@ -1,7 +1,7 @@
 //! The command whose cases the lines give.
 use crate::given::{Given, WORDS, Word};
 use crate::{json, keys, lanes, playing, relay};
-use case_lines::{Answer, Answers, CaseLine, LineFault, named};
+use case_lines::{Answer, CaseLine, LineFault, is_note, named};
 use std::alloc::Global;
 use std::mem;
 use std::sync::Wait;
@@ -32,18 +32,6 @@ static COMMANDS: [(&str, Command); 5] = [
     ("json", Command::Json),
 ];
 
-impl<R: Threads + Wait + Sync> Answers<R> for Cases {
-    /// What a line answers; only one that runs the command answers anything.
-    fn answer(&mut self, rt: &R, line: &mut CaseLine<'_>) -> Answer {
-        match named(&WORDS, line.word()) {
-            Some(Word::Command) => self.begin(line.named(&COMMANDS, Command::Play)),
-            Some(Word::Run) => self.run(rt, line),
-            Some(word) => self.given.take(self.alloc, word, line),
-            None => Err(LineFault::Call),
-        }
-    }
-}
-
 impl Cases {
     /// Cases of `play`.
     pub(crate) fn new(alloc: Global) -> Cases {
@@ -51,6 +39,25 @@ impl Cases {
             alloc,
             command: Command::Play,
             given: nothing(alloc, Command::Play),
+        }
+    }
+
+    /// What a line answers; only one that runs the command answers anything, and a note nothing.
+    pub(crate) fn answered<R: Threads + Wait + Sync>(&mut self, rt: &R, text: &str) -> Answer {
+        if is_note(text) {
+            return Ok(None);
+        }
+        let mut line = CaseLine::new(text);
+        let answer = self.answer(rt, &mut line);
+        line.checked(answer)
+    }
+
+    fn answer<R: Threads + Wait + Sync>(&mut self, rt: &R, line: &mut CaseLine) -> Answer {
+        match named(&WORDS, line.word()) {
+            Some(Word::Command) => self.begin(line.named(&COMMANDS, Command::Play)),
+            Some(Word::Run) => self.run(rt, line),
+            Some(word) => self.given.take(self.alloc, word, line),
+            None => Err(LineFault::Call),
         }
     }
 

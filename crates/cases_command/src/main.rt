@@ -14,11 +14,21 @@ mod playing;
 mod relay;
 mod shown;
 
-use case_lines::answer_lines;
+use case_lines::AnsweredLine;
 use cases::Cases;
 use std::io;
 
 fn main(rt: HostRuntime) -> io::Result<()> {
     let mut cases = Cases::new(rt.alloc());
-    answer_lines(&rt, rt.alloc(), &mut cases)
+    for line in rt.lines(rt.alloc()) {
+        let line = line?;
+        let text = line.as_str();
+        let answer = cases.answered(&rt, text);
+        let told = AnsweredLine {
+            line: text,
+            answer: &answer,
+        };
+        println!(&rt; "{told}")?;
+    }
+    Ok(())
 }
