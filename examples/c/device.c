@@ -65,7 +65,7 @@ struct device {
     // the read groups, and the name of the first reader
     uint32_t read_groups;
     char reader[UAP_NAME_ROOM];
-    // the line that was printed last, and the status that the machine goes by: it runs with UAP_OK alone
+    // the line that was printed last, and the status that the machine goes by, none before the first round: it runs with UAP_OK alone
     char shown[LINE_BYTES];
     uint32_t fresh;
     struct counts counts;
@@ -329,7 +329,7 @@ static void run(struct device *device, uint64_t until) {
 }
 
 int main(int count, char **words) {
-    struct device device = {.publisher = UAP_CLOSED_HANDLE, .subscriber = UAP_CLOSED_HANDLE};
+    struct device device = {.publisher = UAP_CLOSED_HANDLE, .subscriber = UAP_CLOSED_HANDLE, .fresh = UINT32_MAX};
     const struct counts *counts = &device.counts;
     if (count != 5) fail(USAGE);
     uint32_t port = number_of(words[2], 65535), peer = number_of(words[3], 65535), seconds = number_of(words[4], 1000000);
