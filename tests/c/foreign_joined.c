@@ -1,6 +1,6 @@
 // A socket of examples/c/joined.h hears a datagram to its multicast group, on the loopback interface.
 #define _DEFAULT_SOURCE
-#include "../examples/c/joined.h"
+#include "../../examples/c/joined.h"
 #include <poll.h>
 #include <stdio.h>
 #include <string.h>

@@ -2,7 +2,7 @@
 // holds the row, or waits for the reason, that the table tells, and each datagram that a publisher gives is the table's. models/foreign/table.py
 // has the form of a line. Files of configurations are named from the folder that the program runs in.
 #include "calls.h"
-#include "../examples/c/pulled.h"
+#include "../../examples/c/pulled.h"
 
 enum { LINE_BYTES = 1 << 14, MOST_WORDS = 64, TEXT_BYTES = 1 << 16 };
 

@@ -1,6 +1,6 @@
 // The calls of include/uapubsub.h: what each answers to what a program may get wrong, and 100,000 damaged datagrams. With a seed as its
 // word it damages by that one. It ends with status 1 at the first answer that is another. Parts with a subject of their own stand in
-// .ci/calls_*.c. What is expected is what the header and docs/ say.
+// tests/c/calls_*.c. What is expected is what the header and docs/ say.
 //
 // usage: calls LEFT RIGHT [SEED [TURNS]]     (the configurations examples/c/left.toml and right.toml; ten damaged datagrams a turn)
 #include "calls.h"
