@@ -3,11 +3,12 @@ pub mod Turns
 pub mod Payloads
 pub mod Envelopes
 pub mod Sealing
--- What the contracts of the public calls and the laws say beside it. It has where a group stands and what its turns ask, the limits, and a
--- writer's own part of a turn. It has a group's part of the configuration, a sender that may be lent, the groups that share one, and what
+-- What the contracts of the public calls and the laws say beside it. It has where a group stands and what its turns ask, the limits, the memory that
+-- turns need, and a writer's own part of a turn. It has a group's part of the configuration, a sender that may be lent, the groups that share one, and what
 -- headers and counts ask.
 pub mod Standing
 pub mod Limits
+pub mod Needs
 pub mod Answering
 pub mod Parts
 pub mod Lending
