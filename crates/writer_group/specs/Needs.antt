@@ -65,4 +65,4 @@ largest_need = record { frames = frames_bytes; bytes = datagrams_bytes; datagram
 
 -- the bytes that are taken for so much, with what is kept of each datagram
 abbrev pub reserved_bytes : Need → ℕ
-reserved_bytes need = need.frames + need.bytes + 28 * need.datagrams
+reserved_bytes need = need.frames + need.bytes + 24 * need.datagrams

@@ -20,9 +20,9 @@ const DATAGRAMS_BYTES: u32 = 229_376;
 const MOST_DATAGRAMS: u32 = 1024;
 
 /// What is kept of each datagram beside its bytes: what it carries, and where it stands.
-const KEPT_BYTES: u64 = 28;
+const KEPT_BYTES: u64 = 24;
 
-const _: () = prove!(size_of::<Load>() + size_of::<Range>() == 28);
+const _: () = prove!(size_of::<Load>() + size_of::<Range>() == 24);
 
 /// What the turns of a configuration's groups need at most, for frames and datagrams.
 #[derive(Clone, Copy, Debug, PartialEq, Eq)]

@@ -12,9 +12,9 @@ use Rattle.writer_group.specs.Standing.{IsMadeFor, IsSenderFor, MayTick, index_o
 use Rattle.writer_group.proofs.ReadyTurns.{keeps-ticked, passed-made}
 use Rattle.writer_group.proofs.TickSteps.{HasLoads, IsPartOf, at-part, few-sizes, loads-left, may-answer, may-make, of-part}
 use Rattle.writer_group.proofs.WholeTurns.{HadTurns, HasPosted, as-posted, few-posted, has-loads, loads-few, logs-stay, sender-stays, still-made, turned-few, turned-goes-on, turned-stands}
-use Rattle.writer_group.proofs.group.Group.tick.Goals as goal
+use Rattle.writer_group.proofs.group.Group.tick_within.Goals as goal
 use Rattle.writer_group.specs.Holding.{listed_sizes}
-use Rattle.writer_group.proofs.group.Group.tick.Goals.{After-a_class_id_is_whole, After-answer, After-plan_loads, After-post, After-post_sealed}
+use Rattle.writer_group.proofs.group.Group.tick_within.Goals.{After-a_class_id_is_whole, After-answer, After-plan_loads, After-post, After-post_sealed}
 
 own : (c : After-a_class_id_is_whole) → IsPartOf c.args.config.now c.args.self.now.index c.part_of-group.result.now
 own c = record { good = c.requires.good; within = c.requires.index; is = c.part_of-group.ensures; class_id = c.a_class_id_is_whole.ensures }
