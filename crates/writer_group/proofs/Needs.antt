@@ -1,16 +1,20 @@
 -- The memory that turns need: of a group no more than of all, and never more than the largest.
-use Rattle.std.proofs.Common.{◌≡◌, ℕ, zero, suc, ◌+◌, ◌*◌, ◌<◌, ◌≤◌, Bool, true, false, List, [], ◌∷◌, length, get_or, refl, sym, ap, subst, arith, All, length-append}
+use Rattle.std.proofs.Common.{◌≡◌, ℕ, zero, suc, ◌+◌, ◌*◌, ◌<◌, ◌≤◌, Bool, true, false, List, [], ◌∷◌, length, get_or, drop, refl, sym, ap, ◌∙◌, arith, All, length-append}
 use Rattle.std.specs.Prelude.{max, min, vec_len, if◌then◌else◌}
+use Rattle.std.proofs.lemmas.List.{drop_all, drop_more}
 use Rattle.std.proofs.lemmas.List.Elements.{All-head, All-tail}
+use Rattle.std.proofs.lemmas.List.Sums.{sum_by-cons}
 use Rattle.dataset_meta.specs.Metas.{MetaData}
 use Rattle.config_tables.specs.declared.publisher.Publisher.{Publisher}
 use Rattle.ps_config.specs.declared.parts.Config.{Config}
 use Rattle.ps_config.specs.declared.parts.GroupPart.{GroupPart}
-use Rattle.ps_config.specs.Rooms.{chunk_room, datagrams_in, is_fixed}
+use Rattle.ps_config.specs.declared.parts.WriterPart.{WriterPart}
+use Rattle.ps_config.specs.Beginning.{changed_at, config_beginning, group_beginning, writer_beginning}
+use Rattle.ps_config.specs.Rooms.{chunk_room, datagrams_in, datagrams_of, is_fixed}
 use Rattle.writer_group.specs.declared.datagrams.Datagrams.{Datagrams}
 use Rattle.writer_group.specs.Needs.{bytes_need, datagrams_need, frames_need, group_need, largest_need, most_of}
 use Rattle.writer_group.specs.Posting.{joined}
-use Rattle.writer_group.specs.Standing.{HasRoomFor, HasRoomOf, IsReserved}
+use Rattle.writer_group.specs.Standing.{HasRoom, HasRoomFor, HasRoomOf, IsReserved}
 
 -- ---- the larger and the smaller number
 
@@ -144,3 +148,72 @@ pub frames-room : (config : Config) (metas : List MetaData) (part : GroupPart) (
     → HasRoomOf (group_need config.publisher.id metas part) out → 2048 * length part.writer ≤ vec_len out.spelled
 frames-room config metas part out few has =
     omega (arith, min-within 32768 (2048 * length part.writer) (omega (arith, few)), has.frames)
+
+-- ---- the largest number so far, and those of the groups that are left
+
+pub most-next : (number : GroupPart → ℕ) (parts : List GroupPart) (index most : ℕ) (part : GroupPart) → index < length parts → part ≡ get_or parts index part
+    → max (max most (number part)) (most_of number (drop (index + 1) parts)) ≡ max most (most_of number (drop index parts))
+most-next number parts index most part within is =
+    let rest = most_of number (drop (index + 1) parts) in
+    sym (ap (λ (l : List GroupPart). max most (most_of number l)) (drop_more parts index part within)
+    ∙ ap (λ (p : GroupPart). max most (max (number p) rest)) (sym is) ∙ max-assoc most (number part) rest)
+
+pub most-none : (number : GroupPart → ℕ) (parts : List GroupPart) (index most : ℕ) → length parts ≤ index
+    → max most (most_of number (drop index parts)) ≡ most
+most-none number parts index most all =
+    ap (λ (l : List GroupPart). max most (most_of number l)) (drop_all index parts all) ∙ max-zero most
+  where
+    max-zero : (a : ℕ) → max a 0 ≡ a
+    max-zero a = omega arith
+
+-- ---- a configuration of which a writer begins at another number needs as much
+
+most-changed : (number : GroupPart → ℕ) (change : GroupPart → GroupPart) (place : ℕ) (parts : List GroupPart)
+    → ((part : GroupPart) → number (change part) ≡ number part) → most_of number (changed_at place change parts) ≡ most_of number parts
+most-changed number change place [] same = refl
+most-changed number change zero (part ∷ parts) same = ap (λ (n : ℕ). max n (most_of number parts)) (same part)
+most-changed number change (suc place) (part ∷ parts) same = ap (max (number part)) (most-changed number change place parts same)
+
+length-changed : (place : ℕ) (change : WriterPart → WriterPart) (writers : List WriterPart) → length (changed_at place change writers) ≡ length writers
+length-changed place change [] = refl
+length-changed zero change (writer ∷ writers) = refl
+length-changed (suc place) change (writer ∷ writers) = ap suc (length-changed place change writers)
+
+sum-changed : (room : ℕ) (metas : List MetaData) (place first : ℕ) (writers : List WriterPart)
+    → datagrams_in room metas (changed_at place (writer_beginning first) writers) ≡ datagrams_in room metas writers
+sum-changed room metas place first [] = refl
+sum-changed room metas zero first (writer ∷ writers) =
+    sum_by-cons (datagrams_of room metas) (writer_beginning first writer) writers ∙ sym (sum_by-cons (datagrams_of room metas) writer writers)
+sum-changed room metas (suc place) first (writer ∷ writers) =
+    sum_by-cons (datagrams_of room metas) writer (changed_at place (writer_beginning first) writers)
+    ∙ ap (λ (n : ℕ). datagrams_of room metas writer + n) (sum-changed room metas place first writers)
+    ∙ sym (sum_by-cons (datagrams_of room metas) writer writers)
+
+frames-begun : (writer first : ℕ) (part : GroupPart) → frames_need (group_beginning writer first part) ≡ frames_need part
+frames-begun writer first part = ap (λ (n : ℕ). min 32768 (2048 * n)) (length-changed writer (writer_beginning first) part.writer)
+
+datagrams-begun : (publisher : Publisher) (metas : List MetaData) (writer first : ℕ) (part : GroupPart)
+    → datagrams_need publisher metas (group_beginning writer first part) ≡ datagrams_need publisher metas part
+datagrams-begun publisher metas writer first part =
+    ap (λ (n : ℕ). if is_fixed part.layout then 1 else min 1024 n) (sum-changed (chunk_room publisher part) metas writer first part.writer)
+
+bytes-begun : (publisher : Publisher) (metas : List MetaData) (writer first : ℕ) (part : GroupPart)
+    → bytes_need publisher metas (group_beginning writer first part) ≡ bytes_need publisher metas part
+bytes-begun publisher metas writer first part =
+    ap (λ (n : ℕ). min 229376 (n * part.max_size)) (datagrams-begun publisher metas writer first part)
+
+pub room-begun : (config : Config) (group writer first : ℕ) (out : Datagrams) → HasRoom config out → HasRoom (config_beginning group writer first config) out
+room-begun config group writer first out has =
+    let publisher = config.publisher.id in
+    let metas = config.dataset in
+    let change = group_beginning writer first in
+    let frames = most-changed frames_need change group config.group (frames-begun writer first) in
+    let bytes = most-changed (bytes_need publisher metas) change group config.group (bytes-begun publisher metas writer first) in
+    let datagrams = most-changed (datagrams_need publisher metas) change group config.group (datagrams-begun publisher metas writer first) in
+    record {
+      within = has.within;
+      frames = omega (arith, frames, has.frames);
+      bytes = omega (arith, bytes, has.bytes);
+      loads = omega (arith, datagrams, has.loads);
+      ranges = omega (arith, datagrams, has.ranges);
+    }

@@ -49,7 +49,8 @@ impl Need {
             bytes: 0,
             datagrams: 0,
         };
-        for group in config.group.as_slice() {
+        let groups = config.group.as_slice();
+        for group in groups {
             most = most.larger(need_of_group(config, group));
         }
         most

@@ -8,9 +8,12 @@ use Rattle.writer_group.specs.Lending.{lent_in}
 use Rattle.writer_group.specs.declared.settings.Rooms.{Rooms}
 use Rattle.writer_group.specs.Making.{IsPosted, MayMake, loads_in}
 use Rattle.writer_group.specs.Sealing.{advanced_by}
-use Rattle.writer_group.specs.Standing.{IsMadeFor, IsSenderFor, MayTick, index_of}
+use Rattle.writer_group.specs.Needs.{group_need}
+use Rattle.writer_group.specs.Standing.{HasRoomOf, IsMadeFor, IsSenderFor, MayTick, index_of}
+use Rattle.writer_group.proofs.Needs.{frames-room, room-at}
+use Rattle.writer_group.proofs.SetupLaws.{few-writers}
 use Rattle.writer_group.proofs.ReadyTurns.{keeps-ticked, passed-made}
-use Rattle.writer_group.proofs.TickSteps.{HasLoads, IsPartOf, at-part, few-sizes, loads-left, may-answer, may-make, of-part}
+use Rattle.writer_group.proofs.TickSteps.{HasLoads, IsInTurn, IsPartOf, at-part, few-sizes, loads-left, loads-room, may-answer, may-make, of-part}
 use Rattle.writer_group.proofs.WholeTurns.{HadTurns, HasPosted, as-posted, few-posted, has-loads, loads-few, logs-stay, sender-stays, still-made, turned-few, turned-goes-on, turned-stands}
 use Rattle.writer_group.proofs.group.Group.tick_within.Goals as goal
 use Rattle.writer_group.specs.Holding.{listed_sizes}
@@ -63,17 +66,41 @@ plan_loads-requires-clause-few c =
     let r = (goal.at.plan_loads-requires-clause-few c).After-a_class_id_is_whole in
     few-sizes c.args.config.now c.args.self.now.index c.part_of-group.result.now c.args.metas.now c.answer.new.out (own r) c.answer.ensures.spelled
 
+-- what the turn is given, once its frames are spelled
+in-turn : (c : After-answer) → IsMadeFor c.args.config.now c.part_of-group.result.now c.answer.new.self
+    → MayTick c.args.config.now c.args.metas.now c.args.rows.now c.args.on.now (lent_in c.args.sender) c.args.self.now c.part_of-group.result.now
+    → IsInTurn c.args.config.now c.args.self.now.index c.part_of-group.result.now c.args.metas.now (lent_in c.args.sender) c.answer.new.self c.answer.new.out
+in-turn c made may = record {
+  own = record { good = c.requires.good; within = c.requires.index; is = c.part_of-group.ensures; class_id = c.a_class_id_is_whole.ensures };
+  made_for = made;
+  metas_are = may.metas_are;
+  sender_is = may.sender_is;
+  spelled = c.answer.ensures.spelled;
+}
+
+-- it has room, before its writers answer
+room : (c : After-a_class_id_is_whole) → HasRoomOf (group_need c.args.config.now.publisher.id c.args.metas.now c.part_of-group.result.now) c.args.out.now
+room c = room-at c.args.config.now c.args.metas.now c.args.self.now.index c.part_of-group.result.now c.args.out.now c.requires.index c.part_of-group.ensures c.requires.room
+
+pub answer-requires-clause-frames : goal.answer-requires-clause-frames
+answer-requires-clause-frames c =
+    let r = (goal.at.answer-requires-clause-frames c).After-a_class_id_is_whole in
+    let part = c.part_of-group.result.now in
+    let few = few-writers c.args.config.now c.args.self.now.index part c.requires.good.sound c.requires.index c.part_of-group.ensures in
+    omega (arith, (may r).sampled.on_are, frames-room c.args.config.now c.args.metas.now part c.args.out.now few (room r))
+
 pub plan_loads-requires-clause-left : goal.plan_loads-requires-clause-left
 plan_loads-requires-clause-left c =
     let g = goal.at.plan_loads-requires-clause-left c in
     let r = g.After-a_class_id_is_whole in
-    let rooms = (still g.After-answer (may r).made).rooms in
+    let made = still g.After-answer (may r).made in
+    let need = group_need c.args.config.now.publisher.id c.args.metas.now c.part_of-group.result.now in
     omega (
       arith,
-      ap (λ (rooms : Rooms). length (loads_in c.part_of-group.result.now.layout rooms c.part_of-group.result.now (listed_sizes c.answer.new.out.frames))) rooms,
-      loads-left c.args.config.now c.args.self.now.index c.part_of-group.result.now c.args.metas.now (lent_in c.args.sender) c.answer.new.self c.answer.new.out (own r) (still g.After-answer (may r).made)
-          (may r).metas_are (may r).sender_is c.answer.ensures.spelled,
-      c.answer.ensures.spelled.reserved.loads,
+      ap (λ (rooms : Rooms). length (loads_in c.part_of-group.result.now.layout rooms c.part_of-group.result.now (listed_sizes c.answer.new.out.frames))) made.rooms,
+      loads-left c.args.config.now c.args.self.now.index c.part_of-group.result.now c.args.metas.now (lent_in c.args.sender) c.answer.new.self c.answer.new.out
+          (in-turn g.After-answer made (may r)),
+      (c.answer.ensures.room need (room r)).loads,
     )
 
 pub post-requires : goal.post-requires
@@ -81,18 +108,36 @@ post-requires c =
     let g = goal.at.post-requires c in
     let r = g.After-a_class_id_is_whole in
     let p = g.After-plan_loads in
+    let need = group_need c.args.config.now.publisher.id c.args.metas.now c.part_of-group.result.now in
     subst (λ (s : Option SenderState). MayMake c.args.config.now c.part_of-group.result.now s c.answer.new.self (planned p)) (ap lent_in c.in-None.is)
-    (may-make c.args.config.now c.args.self.now.index c.part_of-group.result.now c.args.metas.now (lent_in c.args.sender) c.answer.new.self c.answer.new.out (planned p) (own r) (still g.After-answer (may r).made)
-    (may r).metas_are (may r).sender_is c.answer.ensures.spelled (has p (may r).made))
+    (may-make c.args.config.now c.args.self.now.index c.part_of-group.result.now c.args.metas.now (lent_in c.args.sender) c.answer.new.self c.answer.new.out (planned p)
+    (in-turn g.After-answer (still g.After-answer (may r).made) (may r)) (has p (may r).made) (c.answer.ensures.room need (room r)))
 
 pub post_sealed-requires : goal.post_sealed-requires
 post_sealed-requires c =
     let g = goal.at.post_sealed-requires c in
     let r = g.After-a_class_id_is_whole in
     let p = g.After-plan_loads in
+    let need = group_need c.args.config.now.publisher.id c.args.metas.now c.part_of-group.result.now in
     subst (λ (s : Option SenderState). MayMake c.args.config.now c.part_of-group.result.now s c.answer.new.self (planned p)) (ap lent_in c.in-Some.is)
-    (may-make c.args.config.now c.args.self.now.index c.part_of-group.result.now c.args.metas.now (lent_in c.args.sender) c.answer.new.self c.answer.new.out (planned p) (own r) (still g.After-answer (may r).made)
-    (may r).metas_are (may r).sender_is c.answer.ensures.spelled (has p (may r).made))
+    (may-make c.args.config.now c.args.self.now.index c.part_of-group.result.now c.args.metas.now (lent_in c.args.sender) c.answer.new.self c.answer.new.out (planned p)
+    (in-turn g.After-answer (still g.After-answer (may r).made) (may r)) (has p (may r).made) (c.answer.ensures.room need (room r)))
+
+pub returns-in-None-clause-room : goal.returns-in-None-clause-room
+returns-in-None-clause-room c = λ need before.
+    let g = goal.at.returns-in-None-clause-room c in
+    let p = g.After-plan_loads in
+    c.post.ensures.room need
+    (loads-room c.args.config.now c.part_of-group.result.now c.answer.new.out (planned p) (has p (may g.After-a_class_id_is_whole).made) need
+    (c.answer.ensures.room need before))
+
+pub returns-in-Some-clause-room : goal.returns-in-Some-clause-room
+returns-in-Some-clause-room c = λ need before.
+    let g = goal.at.returns-in-Some-clause-room c in
+    let p = g.After-plan_loads in
+    c.post_sealed.ensures.posted.room need
+    (loads-room c.args.config.now c.part_of-group.result.now c.answer.new.out (planned p) (has p (may g.After-a_class_id_is_whole).made) need
+    (c.answer.ensures.room need before))
 
 -- ---- the datagrams
 
