@@ -6,9 +6,9 @@ ghost use Rattle.writer_group.specs.Needs.{datagrams_need, frames_need, group_ne
 
 use crate::load::Load;
 use crate::posting::Range;
-use core::mem::size_of;
 use dataset_meta::Meta;
 use ps_config::{Config, GroupPart, WriterPart, chunk_room, is_fixed, largest_frame};
+use std::mem::size_of;
 
 /// The bytes of a turn's frames at most: 16 of them.
 const FRAMES_BYTES: u32 = 32_768;
