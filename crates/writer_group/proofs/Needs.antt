@@ -1,7 +1,6 @@
 -- The memory that turns need: of a group no more than of all, and never more than the largest.
-use Rattle.std.proofs.Common.{◌≡◌, ℕ, zero, suc, ◌+◌, ◌*◌, ◌<◌, ◌≤◌, Bool, true, false, List, [], ◌∷◌, length, get_or, drop, refl, sym, ap, ◌∙◌, arith, All, length-append}
+use Rattle.std.proofs.Common.{◌≡◌, ℕ, zero, suc, ◌+◌, ◌*◌, ◌<◌, ◌≤◌, Bool, true, false, List, [], ◌∷◌, length, get_or, refl, sym, ap, ◌∙◌, arith, All, length-append}
 use Rattle.std.specs.Prelude.{max, min, vec_len, if◌then◌else◌}
-use Rattle.std.proofs.lemmas.List.{drop_all, drop_more}
 use Rattle.std.proofs.lemmas.List.Elements.{All-head, All-tail}
 use Rattle.std.proofs.lemmas.List.Sums.{sum_by-cons}
 use Rattle.dataset_meta.specs.Metas.{MetaData}
@@ -26,9 +25,6 @@ max-right a b = omega arith
 
 max-least : (a b n : ℕ) → a ≤ n → b ≤ n → max a b ≤ n
 max-least a b n one other = omega (arith, one, other)
-
-pub max-assoc : (a b c : ℕ) → max a (max b c) ≡ max (max a b) c
-max-assoc a b c = omega arith
 
 min-most : (a b n : ℕ) → n ≤ a → n ≤ b → n ≤ min a b
 min-most a b n one other = omega (arith, one, other)
@@ -125,16 +121,23 @@ room-at config metas index part out within is has =
       ranges = omega (arith, datagrams, has.ranges);
     }
 
+pub frames-most : (parts : List GroupPart) → most_of frames_need parts ≤ 32768
+frames-most parts = most-within frames_need 32768 parts (λ part. min-left 32768 (2048 * length part.writer))
+
+pub bytes-most : (publisher : Publisher) (metas : List MetaData) (parts : List GroupPart) → most_of (bytes_need publisher metas) parts ≤ 229376
+bytes-most publisher metas parts =
+    most-within (bytes_need publisher metas) 229376 parts (λ part. min-left 229376 (datagrams_need publisher metas part * part.max_size))
+
+datagrams-most : (publisher : Publisher) (metas : List MetaData) (parts : List GroupPart) → most_of (datagrams_need publisher metas) parts ≤ 1024
+datagrams-most publisher metas parts = most-within (datagrams_need publisher metas) 1024 parts (need-few publisher metas)
+
 -- memory for the largest turn has room for the groups of each configuration
 pub room-largest : (config : Config) (metas : List MetaData) (out : Datagrams) → IsReserved out → HasRoomFor config metas out
 room-largest config metas out has =
     let publisher = config.publisher.id in
-    let frames : most_of frames_need config.group ≤ 32768 =
-    most-within frames_need 32768 config.group (λ part. min-left 32768 (2048 * length part.writer)) in
-    let bytes : most_of (bytes_need publisher metas) config.group ≤ 229376 =
-    most-within (bytes_need publisher metas) 229376 config.group (λ part. min-left 229376 (datagrams_need publisher metas part * part.max_size)) in
-    let datagrams : most_of (datagrams_need publisher metas) config.group ≤ 1024 =
-    most-within (datagrams_need publisher metas) 1024 config.group (need-few publisher metas) in
+    let frames = frames-most config.group in
+    let bytes = bytes-most publisher metas config.group in
+    let datagrams = datagrams-most publisher metas config.group in
     record {
       within = has.within;
       frames = omega (arith, frames, has.frames);
@@ -148,23 +151,6 @@ pub frames-room : (config : Config) (metas : List MetaData) (part : GroupPart) (
     → HasRoomOf (group_need config.publisher.id metas part) out → 2048 * length part.writer ≤ vec_len out.spelled
 frames-room config metas part out few has =
     omega (arith, min-within 32768 (2048 * length part.writer) (omega (arith, few)), has.frames)
-
--- ---- the largest number so far, and those of the groups that are left
-
-pub most-next : (number : GroupPart → ℕ) (parts : List GroupPart) (index most : ℕ) (part : GroupPart) → index < length parts → part ≡ get_or parts index part
-    → max (max most (number part)) (most_of number (drop (index + 1) parts)) ≡ max most (most_of number (drop index parts))
-most-next number parts index most part within is =
-    let rest = most_of number (drop (index + 1) parts) in
-    sym (ap (λ (l : List GroupPart). max most (most_of number l)) (drop_more parts index part within)
-    ∙ ap (λ (p : GroupPart). max most (max (number p) rest)) (sym is) ∙ max-assoc most (number part) rest)
-
-pub most-none : (number : GroupPart → ℕ) (parts : List GroupPart) (index most : ℕ) → length parts ≤ index
-    → max most (most_of number (drop index parts)) ≡ most
-most-none number parts index most all =
-    ap (λ (l : List GroupPart). max most (most_of number l)) (drop_all index parts all) ∙ max-zero most
-  where
-    max-zero : (a : ℕ) → max a 0 ≡ a
-    max-zero a = omega arith
 
 -- ---- a configuration of which a writer begins at another number needs as much
 

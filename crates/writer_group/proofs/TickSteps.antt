@@ -149,10 +149,10 @@ pub record IsInTurn (config : Config) (index : ℕ) (part : GroupPart) (metas : 
   pub sender_is : IsSenderFor part sender
   pub spelled : AreSpelled part metas out
 
-loads_by_sizes : Config → GroupPart → Datagrams → List Load
+abbrev loads_by_sizes : Config → GroupPart → Datagrams → List Load
 loads_by_sizes config part out = loads_for config.publisher.id part (map size_of (spelled_in out))
 
-made_by_sizes : Config → GroupPart → Option SenderState → Group → Datagrams → List (List ℕ)
+abbrev made_by_sizes : Config → GroupPart → Option SenderState → Group → Datagrams → List (List ℕ)
 made_by_sizes config part sender group out =
     datagrams_from (envelope_with config part group.made) sender 0 (map (payload_in (cargo_with config part group out)) (loads_by_sizes config part out))
 

@@ -220,7 +220,12 @@ impl Group {
         ensures reserved { IsReserved out.new }
         ensures keeps_to { metas.now ≡ config.now.dataset → KeepsTo config.now self.new }
     {
-        self.tick_within(config, metas, now, rows, on, sender, closing, out)
+        match sender {
+            None => self.tick_within(config, metas, now, rows, on, None, closing, out),
+            Some(sender) => {
+                self.tick_within(config, metas, now, rows, on, Some(sender), closing, out)
+            }
+        }
     }
 
     /// The same, with room for the turns of this configuration's groups alone, as `Datagrams::for_config` reserves it.

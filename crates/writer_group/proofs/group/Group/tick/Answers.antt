@@ -4,6 +4,3 @@ use Rattle.writer_group.proofs.group.Group.tick.Goals as goal
 
 pub tick_within-requires-clause-room : goal.tick_within-requires-clause-room
 tick_within-requires-clause-room c = room-largest c.args.config.now c.args.metas.now c.args.out.now c.requires.reserved
-
-pub returns-clause-reserved : goal.returns-clause-reserved
-returns-clause-reserved c = c.tick_within.ensures.room largest_need c.requires.reserved
