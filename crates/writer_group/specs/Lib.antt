@@ -14,7 +14,7 @@ pub mod Parts
 pub mod Lending
 pub mod Sharing
 pub mod Turning
--- Inner machinery of the code's proofs, which no caller needs: what the buffer, the loads and the fronts in memory stand for, and the steps in which
+-- Inner machinery of the code's proofs, which no caller needs: what the bytes, the loads and the fronts in memory stand for, and the steps in which
 -- the datagrams are planned, laid and posted.
 pub mod Holding
 pub mod Making

@@ -79,7 +79,8 @@ made_with config part sender group out =
     made_from config part sender group out.spelled.items out.frames out.loads.items
 
 -- the loads are of what the frames are, and the sender has numbers for them
-pub record MayMakeOf (config : Config) (part : GroupPart) (sender : Option SenderState) (group : Group) (bytes : List ℕ) (frames : Frames) (loads : List Load) : Type 0 where
+pub record MayMakeOf (config : Config) (part : GroupPart) (sender : Option SenderState) (group : Group) (bytes : List ℕ) (frames : Frames)
+    (loads : List Load) : Type 0 where
   pub made_for : IsMadeFor config part group
   pub loads_are : All (IsLoad (cargo_from config part group bytes frames)) loads
   pub few : length loads ≤ most_datagrams

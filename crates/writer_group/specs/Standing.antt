@@ -84,7 +84,8 @@ pub record IsGood (config : Config) : Type 0 where
 -- more than 1,024 datagrams
 pub record AreMetas (config : Config) (part : GroupPart) (metas : List MetaData) : Type 0 where
   pub count : length metas ≡ length config.dataset
-  pub fixed : is_fixed part.layout ≡ true → (writer : ℕ) → writer < length part.writer → meta_at part metas writer ≡ meta_at part config.dataset writer
+  pub fixed : is_fixed part.layout ≡ true → (writer : ℕ) → writer < length part.writer
+      → meta_at part metas writer ≡ meta_at part config.dataset writer
   pub room : lacks_room config.publisher.id metas part ≡ false
 
 -- a row of each data set's meta, and a truth value for each writer
@@ -236,7 +237,8 @@ IsMadeBeginning writer first old new =
     (config : Config) (index : ℕ) (part : GroupPart) → IsMadeFor config part old
     → IsMadeFor (config_beginning index writer first config) (group_beginning writer first part) new
 
--- where the writer with this index had no turn, the group stands where these deeds leave one in which that writer begins at this number; its meta may be another from now on
+-- where the writer with this index had no turn, the group stands where these deeds leave one in which that writer begins at this number; its meta may be
+-- another from now on
 abbrev pub HasBegun : ℕ → ℕ → Group → Group → Type 0
 HasBegun writer first old new =
     (metas others : ℕ → MetaData) (part : GroupPart) (past : List GroupDeed) → AreSameBut writer (length part.writer) metas others
@@ -274,7 +276,8 @@ pub record IsMomentOf (interval now moment : ℕ) : Type 0 where
 
 -- it is that of the group's publishing interval
 abbrev pub TellsMoment : Group → ℕ → ℕ → Type 0
-TellsMoment group now moment = (config : Config) (part : GroupPart) → IsMadeFor config part group → 1 ≤ part.interval → IsMomentOf part.interval now moment
+TellsMoment group now moment =
+    (config : Config) (part : GroupPart) → IsMadeFor config part group → 1 ≤ part.interval → IsMomentOf part.interval now moment
 
 -- where the moment of the last turn is a multiple of the publishing interval, the group is due at the moment of each time that is an interval later, or more
 abbrev pub IsDueInTime : GroupPart → List GroupDeed → Type 0
@@ -310,7 +313,8 @@ HasTickedAt config input old new out =
 -- its writers may have one turn less, of the metas of this one
 abbrev pub GoesOnAt : Config → List MetaData → Group → Group → Type 0
 GoesOnAt config metas old new =
-    HoldsAt (λ part. (turns : ℕ) → MayGoOn (metas_for part metas) part (turns + 1) old → MayGoOn (metas_for part metas) part turns new) config.group (index_of old)
+    HoldsAt (λ part. (turns : ℕ) → MayGoOn (metas_for part metas) part (turns + 1) old → MayGoOn (metas_for part metas) part turns new)
+    config.group (index_of old)
 
 -- its sender, if it has one, gave a front for each of so many datagrams
 abbrev pub IsSenderAfter : Config → ℕ → ℕ → Option SenderState → Option SenderState → Type 0

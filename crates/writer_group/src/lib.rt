@@ -1,4 +1,4 @@
-//! Groups of writers (OPC 10000-14 6.2.6, WriterGroup): what each turn's frames become, datagrams in one buffer.
+//! Groups of writers (OPC 10000-14 6.2.6, WriterGroup): what each turn's frames become, datagrams in memory that all groups use.
 #![tactic(auto)]
 
 mod answering;
