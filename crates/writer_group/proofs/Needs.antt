@@ -11,7 +11,7 @@ use Rattle.ps_config.specs.declared.parts.WriterPart.{WriterPart}
 use Rattle.ps_config.specs.Beginning.{changed_at, config_beginning, group_beginning, writer_beginning}
 use Rattle.ps_config.specs.Rooms.{chunk_room, datagrams_in, datagrams_of, is_fixed}
 use Rattle.writer_group.specs.declared.datagrams.Datagrams.{Datagrams}
-use Rattle.writer_group.specs.Needs.{bytes_need, datagrams_need, frames_need, group_need, largest_need, most_of}
+use Rattle.writer_group.specs.Needs.{bytes_need, datagrams_need, frames_need, group_need, most_of}
 use Rattle.writer_group.specs.Posting.{joined}
 use Rattle.writer_group.specs.Standing.{HasRoom, HasRoomFor, HasRoomOf, IsReserved}
 

@@ -1,4 +1,4 @@
-use Rattle.std.proofs.Common.{refl, sym, ap, ◌∙◌, arith, None}
+use Rattle.std.proofs.Common.{refl, sym, ap, ◌∙◌, None}
 use Rattle.ps_config.specs.Rooms.{header_settings}
 use Rattle.writer_group.specs.declared.settings.Rooms.{Rooms}
 use Rattle.writer_group.proofs.PostLaws.{are-parts, is-filled, made-within, may-post, nothing-filled}

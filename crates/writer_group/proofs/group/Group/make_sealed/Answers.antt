@@ -1,4 +1,4 @@
-use Rattle.std.proofs.Common.{length, refl, sym, ap, ◌∙◌, arith, Some}
+use Rattle.std.proofs.Common.{length, refl, sym, ap, ◌∙◌, Some}
 use Rattle.message_guard.specs.declared.mode.Mode.{Mode}
 use Rattle.message_guard.specs.Modes.{is_secured}
 use Rattle.writer_group.specs.Sealing.{advanced_by}
