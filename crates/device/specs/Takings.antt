@@ -1,0 +1,19 @@
+-- A datagram that comes to all read groups at once.
+use Rattle.std.specs.Prelude.{◌≡◌, ℕ, zero, suc, List, slice_index_or, Option, Some, None, Result}
+use Rattle.reader_group.specs.declared.refusal.Refusal.{Refusal}
+use Rattle.reader_group.specs.declared.refusal.Taken.{Taken}
+use Rattle.device.specs.declared.subscriber.Subscriber.{Subscriber}
+use Rattle.device.specs.Sides.{HasListened}
+
+-- the read group with this index had the datagram in a copy of its own, as by a call of its own (HasListened), and answered so
+pub record HasTaken (group now : ℕ) (datagram : List ℕ) (old new : Subscriber) (answer : Option (Result Taken Refusal)) : Type 0 where
+  pub left : List ℕ
+  pub given : Result Taken Refusal
+  pub answer_is : answer ≡ Some given
+  pub listened : HasListened group now datagram left old new given
+
+-- the first read groups, so many, had it so, one after another
+abbrev pub HaveTaken : ℕ → ℕ → List ℕ → List (Option (Result Taken Refusal)) → Subscriber → Subscriber → Type 0
+HaveTaken zero now datagram answers old new = (new.groups.items ≡ old.groups.items) × (new.config ≡ old.config)
+HaveTaken (suc count) now datagram answers old new =
+    (mid : Subscriber) × (HaveTaken count now datagram answers old mid × HasTaken count now datagram mid new (slice_index_or answers count None))
