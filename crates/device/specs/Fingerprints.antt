@@ -1,6 +1,8 @@
 -- What tells one configuration from another, for which stored numbers aren't.
 use Rattle.std.specs.Prelude.{ℕ, ◌+◌, List, ◌++◌, length, flat_map, Option, Some, None}
-use Rattle.byteorder.specs.Endian.{little_bytes}
+use Rattle.std.specs.Int.{to_le_bytes, w32, w64}
+use Rattle.sha2.specs.declared.Sha256.{Sha256}
+use Rattle.sha2.specs.Hashers.{Holds256}
 use Rattle.sha2.specs.Sha256.{sha256}
 use Rattle.ua_values.specs.declared.kind.Kind.{Kind}
 use Rattle.ua_values.specs.declared.kind.Kind.TheVariants as kinds
@@ -19,29 +21,37 @@ use Rattle.ps_config.specs.declared.parts.WriterPart.{WriterPart}
 
 -- a number of 32 bits, little-endian
 abbrev pub number : ℕ → List ℕ
-number n = little_bytes 4 n
+number n = to_le_bytes w32 n
+
+-- one of 64
+abbrev pub wide : ℕ → List ℕ
+wide n = to_le_bytes w64 n
 
 -- a text behind its length
 abbrev pub text : List ℕ → List ℕ
-text bytes = number (length bytes) ++ bytes
+text bytes = wide (length bytes) ++ bytes
 
 -- the elements behind their count
 abbrev pub listed : {X : Type 0} → (X → List ℕ) → List X → List ℕ
-listed spelled items = number (length items) ++ flat_map spelled items
+listed spelled items = wide (length items) ++ flat_map spelled items
 
 -- a place that may be none
 abbrev pub place_number : Option ℕ → ℕ
 place_number None = 0
 place_number (Some place) = place + 1
 
+-- a hasher holds these bytes more
+abbrev pub Adds : List ℕ → Sha256 → Sha256 → Type 0
+Adds bytes old new = (before : List ℕ) → Holds256 old before → Holds256 new (before ++ bytes)
+
 -- ---- parts
 
 -- the PublisherId behind the bits of its type, 0 for a text
 abbrev pub id_bytes : Publisher → List ℕ
-id_bytes (publisher.U8 id) = number 8 ++ little_bytes 8 id
-id_bytes (publisher.U16 id) = number 16 ++ little_bytes 8 id
-id_bytes (publisher.U32 id) = number 32 ++ little_bytes 8 id
-id_bytes (publisher.U64 id) = number 64 ++ little_bytes 8 id
+id_bytes (publisher.U8 id) = number 8 ++ wide id
+id_bytes (publisher.U16 id) = number 16 ++ wide id
+id_bytes (publisher.U32 id) = number 32 ++ wide id
+id_bytes (publisher.U64 id) = number 64 ++ wide id
 id_bytes (publisher.Text id) = number 0 ++ text id
 
 abbrev pub key_bits : Policy → ℕ

@@ -1,6 +1,6 @@
 -- What a publisher saves, and what of it is in store.
-use Rattle.std.specs.Prelude.{◌≡◌, ℕ, ◌+◌, ◌*◌, ◌-◌, ◌%◌, ◌^◌, ◌<◌, ◌≤◌, ◌⊎◌, List, length, min, nat_lt, slice_get, slice_index_or, All, Option, Some, None, if◌then◌else◌}
-use Rattle.std.specs.List.{Any, HoldsAt}
+use Rattle.std.specs.Prelude.{◌≡◌, ℕ, ◌+◌, ◌*◌, ◌-◌, ◌%◌, ◌^◌, ◌<◌, ◌≤◌, ◌⊎◌, ⊤, List, length, min, nat_lt, slice_index_or, Option, Some, None, if◌then◌else◌}
+use Rattle.std.specs.List.{HoldsAt}
 use Rattle.stored_state.specs.declared.state.StoredState.{StoredState}
 use Rattle.stored_state.specs.States.{IsState, written}
 use Rattle.message_guard.specs.Senders.{SenderState}
@@ -73,6 +73,29 @@ AreMessagesSaved ahead publisher words =
     (group writer : ℕ) → group < length publisher.sides.items
     → HoldsAt (λ side. writer < writer_count side.group → IsMessageSaved ahead group writer side (message_word words group writer)) publisher.sides.items group
 
+-- ---- the numbers of a state that is saved, by their places
+
+-- the pair is the one that is saved of the key group with this index, if there is one
+abbrev pub IsPairAt : ℕ → Publisher → ℕ → ℕ × ℕ → Type 0
+IsPairAt ahead publisher keygroup pair =
+    keygroup < length publisher.senders.items → HoldsAt (λ sender. pair ≡ saved_pair ahead publisher.store keygroup sender) publisher.senders.items keygroup
+
+-- the word is the message number that is saved of the writer with this index in the group with this index, if there is one
+abbrev pub IsMessageAt : ℕ → Publisher → ℕ → ℕ → ℕ → Type 0
+IsMessageAt ahead publisher group writer word =
+    group < length publisher.sides.items
+    → HoldsAt (λ side. writer < writer_count side.group → IsMessageSaved ahead group writer side word) publisher.sides.items group
+
+-- the word at the place: a token, a number, or a message number
+pub record IsWordAt (ahead : ℕ) (publisher : Publisher) (place word : ℕ) : Type 0 where
+  pub token : place < 4 → (pair : ℕ × ℕ) × (IsPairAt ahead publisher place pair × (word ≡ pair.0))
+  pub number : (keygroup : ℕ) → keygroup < 4 → place ≡ 4 + keygroup → (pair : ℕ × ℕ) × (IsPairAt ahead publisher keygroup pair × (word ≡ pair.1))
+  pub message : (group writer : ℕ) → writer < 16 → place ≡ message_place group writer → IsMessageAt ahead publisher group writer word
+
+-- each of a state's words is
+abbrev pub AreWords : ℕ → Publisher → List ℕ → Type 0
+AreWords ahead publisher words = (place : ℕ) → place < 72 → IsWordAt ahead publisher place (slice_index_or words place 0)
+
 -- these bytes are of a state with the fingerprint of the configuration, the pairs and the message numbers; it is what was saved last, and nothing else changed
 pub record HasSaved (ahead : ℕ) (old new : Publisher) (bytes : List ℕ) : Type 0 where
   pub state : StoredState
@@ -98,19 +121,16 @@ abbrev pub IsCovered : ℕ → SenderState → Option Saved → Type 0
 IsCovered keygroup sender None = ⊥
 IsCovered keygroup sender (Some saved) = IsNoLower (sender.keys.token, sender.used) (pair_in saved.state.words keygroup)
 
--- and half of what was reserved is left, where it is the same token, unless it was all
-abbrev pub HasHalfLeft : ℕ → SenderState → Saved → Type 0
-HasHalfLeft keygroup sender saved =
-    sender.keys.token ≡ (pair_in saved.state.words keygroup).0
-    → ((pair_in saved.state.words keygroup).1 ≡ last_number) ⊎ (saved.ahead ≤ 2 * ((pair_in saved.state.words keygroup).1 - sender.used))
+-- half of so many numbers that were reserved is left behind a standing, where the pair is of the same token, unless they were all
+abbrev pub IsHalfLeft : ℕ × ℕ → ℕ × ℕ → ℕ → Type 0
+IsHalfLeft standing pair ahead = standing.0 ≡ pair.0 → (pair.1 ≡ last_number) ⊎ (ahead ≤ 2 * (pair.1 - standing.1))
 
-pub record IsAhead (keygroup : ℕ) (sender : SenderState) (saved : Saved) : Type 0 where
-  pub covered : IsNoLower (sender.keys.token, sender.used) (pair_in saved.state.words keygroup)
-  pub half : HasHalfLeft keygroup sender saved
-
+-- the standing of the key group's sender is in store, and half of what was reserved is left
 abbrev pub IsAheadIn : Option Saved → ℕ → SenderState → Type 0
 IsAheadIn None keygroup sender = ⊥
-IsAheadIn (Some saved) keygroup sender = IsAhead keygroup sender saved
+IsAheadIn (Some saved) keygroup sender =
+    IsNoLower (sender.keys.token, sender.used) (pair_in saved.state.words keygroup)
+    × IsHalfLeft (sender.keys.token, sender.used) (pair_in saved.state.words keygroup) saved.ahead
 
 -- all senders have as much
 abbrev pub AreAhead : Publisher → Type 0
