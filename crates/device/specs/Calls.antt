@@ -1,5 +1,5 @@
 -- The calls of a publisher, one after another, and what they make of its senders.
-use Rattle.std.specs.Prelude.{◌≡◌, ◌≢◌, ℕ, ◌+◌, ◌<◌, ◌≤◌, ◌⊎◌, List, [], ◌∷◌, length, Option, None, Some}
+use Rattle.std.specs.Prelude.{◌≡◌, ◌≢◌, ℕ, ◌+◌, ◌<◌, ◌≤◌, ◌⊎◌, ⊤, List, [], ◌∷◌, length, All, Option, None, Some}
 use Rattle.std.specs.List.{AllZip, HoldsAt}
 use Rattle.group_keys.specs.declared.key_set.KeySet.{KeySet}
 use Rattle.message_guard.specs.Senders.{SenderState, turned}
@@ -14,7 +14,7 @@ use Rattle.device.specs.Coming.{ComesTo, HasCome}
 use Rattle.device.specs.Restarts.{HasRestored}
 use Rattle.device.specs.Resuming.{IsBehind}
 use Rattle.device.specs.Sides.{HasRenewed, IsNoLess, IsNoLower}
-use Rattle.device.specs.Storing.{HasSaved, HasStored, IsReleased, none_stored, pair_in, pair_of}
+use Rattle.device.specs.Storing.{HasSaved, HasStored, IsReleased, pair_in, pair_of}
 
 -- it comes to a moment, a key group is renewed, or goes on behind so many numbers; what is to be stored is saved, is in store, or is restored; or all senders stay, and the
 -- store
@@ -97,38 +97,55 @@ GivesEach keygroup now old new =
 
 -- ---- a life that goes on after another
 
--- what is in store has no later pair than what was saved last
+-- where nothing was saved, nothing is in store
 abbrev pub IsStore : Store → Type 0
-IsStore store = (keygroup : ℕ) → IsNoLower (pair_of store.covered keygroup) (pair_of store.saved keygroup)
+IsStore store = store.saved ≡ None → store.covered ≡ None
 
--- what a publisher saves after these calls has no lower pair than what is in store before them
-abbrev pub SavesNoLower : List Call → Type 0
-SavesNoLower calls =
-    (ahead : ℕ) (one two three : Publisher) (bytes : List ℕ) → IsStore one.store → AreCalled calls one two → (saved : HasSaved ahead two three bytes)
-    → (keygroup : ℕ) → keygroup < length two.senders.items → IsNoLower (pair_of one.store.covered keygroup) (pair_in saved.state.words keygroup)
+-- what is saved has no lower pair than what is in store, and none lower than a sender's standing
+pub record SavesNoLower (keygroup : ℕ) (old : Publisher) (words : List ℕ) : Type 0 where
+  pub covered : IsNoLower (pair_of old.store.covered keygroup) (pair_in words keygroup)
+  pub used : HoldsAt (λ sender. IsNoLower (sender.keys.token, sender.used) (pair_in words keygroup)) old.senders.items keygroup
+
+-- the call neither tells that what was saved is in store, nor restores
+abbrev pub LeavesCovered : Call → Type 0
+LeavesCovered Stored = ⊥
+LeavesCovered (Restored now state) = ⊥
+LeavesCovered call = ⊤
 
 -- the state is in store
 abbrev pub IsInStore : StoredState → Option SavedState → Type 0
 IsInStore state None = ⊥
 IsInStore state (Some saved) = saved.state ≡ state
 
+-- it was saved some calls before, none of which told that what was saved is in store
+pub record IsSavedBefore (state : StoredState) (publisher : Publisher) : Type 0 where
+  pub ahead : ℕ
+  pub bytes : List ℕ
+  pub earlier : Publisher
+  pub next : Publisher
+  pub saved : HasSaved ahead earlier next bytes
+  pub same : saved.state ≡ state
+  pub calls : List Call
+  pub called : AreCalled calls next publisher
+  pub untold : All LeavesCovered calls
+
 -- it is saved after some calls more
 pub record IsSavedLater (state : StoredState) (publisher : Publisher) : Type 0 where
   pub calls : List Call
+  pub later : Publisher
+  pub called : AreCalled calls publisher later
   pub ahead : ℕ
   pub bytes : List ℕ
-  pub later : Publisher
   pub last : Publisher
-  pub called : AreCalled calls publisher later
   pub saved : HasSaved ahead later last bytes
   pub same : saved.state ≡ state
 
--- where the publisher stops, or after some calls more, a program may find the state in its store
+-- where the program stops then, or after some calls more, it may find the state in its store: it is what is in store as far as the publisher was told, or was saved after that
 abbrev pub MayBeFound : StoredState → Publisher → Type 0
-MayBeFound state publisher = IsInStore state publisher.store.covered ⊎ IsSavedLater state publisher
+MayBeFound state publisher = IsInStore state publisher.store.covered ⊎ (IsSavedBefore state publisher ⊎ IsSavedLater state publisher)
 
--- the call gave a pair to a datagram of the key group, which after these calls may be sent; where a life goes on after a state that may be found in the store then, the call
--- behind these other calls of it gives no datagram of the key group that pair
+-- the call gave a pair to a datagram of the key group, which may be sent after these calls; where a life goes on after a state that may be found in the store then, the call
+-- after these other calls of it gives no datagram of the key group that pair
 abbrev pub RestoredGiveOthers : ℕ → Call → List Call → List Call → Call → Type 0
 RestoredGiveOthers keygroup first calls others last =
     (now : ℕ) (state : StoredState) (one two three begun four five six : Publisher) (pair other : ℕ × ℕ)

@@ -16,7 +16,7 @@ use Rattle.device.specs.declared.restoring.RestoreEnd.TheVariants.{Damaged, Late
 use Rattle.device.specs.declared.side.Side.{Side}
 use Rattle.device.specs.declared.store.Saved.{Saved}
 use Rattle.device.specs.Fingerprints.{fingerprint_of}
-use Rattle.device.specs.Resuming.{IsBehind, IsEarlier, MayNotResume}
+use Rattle.device.specs.Resuming.{IsBehind, IsEarlier, WouldRepeat}
 use Rattle.device.specs.Sides.{HasWriter}
 use Rattle.device.specs.Storing.{message_word, pair_in}
 
@@ -88,10 +88,11 @@ passed_over pair token = if token == pair.0 then pair.1 else 0
 
 -- the sender of the key group goes on behind the pair (IsBehind) with the last of its key sets whose moment has come, unless it used more numbers of its own
 pub record HasGoneOn (now keygroup : ℕ) (pair : ℕ × ℕ) (old new : Publisher) (sender : SenderState) : Type 0 where
+  pub there : keygroup < length old.config.keygroup
   pub set : KeySet
   pub current_is : current sender.sets now ≡ Some set
   pub is : IsBehind keygroup now (passed_over pair set.token) sender.sets old new
-      ⊎ (MayNotResume keygroup now (passed_over pair set.token) sender.sets old × (new ≡ old))
+      ⊎ (HoldsAt (λ part. WouldRepeat part sender.sets now (passed_over pair set.token) sender) old.config.keygroup keygroup × (new ≡ old))
 
 -- the senders of the first key groups, so many, do, one after another
 abbrev pub HaveGoneOn : ℕ → ℕ → List ℕ → Publisher → Publisher → Type 0

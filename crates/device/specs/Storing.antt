@@ -11,7 +11,7 @@ use Rattle.device.specs.declared.side.Side.{Side}
 use Rattle.device.specs.declared.store.Saved.{Saved}
 use Rattle.device.specs.declared.store.Store.{Store}
 use Rattle.device.specs.Fingerprints.{fingerprint_of}
-use Rattle.device.specs.Sides.{IsNoLower}
+use Rattle.device.specs.Sides.{IsNoLower, IsPublisher}
 
 -- ---- numbers of a state
 
@@ -96,8 +96,9 @@ pub record IsWordAt (ahead : ℕ) (publisher : Publisher) (place word : ℕ) : T
 abbrev pub AreWords : ℕ → Publisher → List ℕ → Type 0
 AreWords ahead publisher words = (place : ℕ) → place < 72 → IsWordAt ahead publisher place (slice_index_or words place 0)
 
--- these bytes are of a state with the fingerprint of the configuration, the pairs and the message numbers; it is what was saved last, and nothing else changed
+-- of a publisher these bytes are those of a state with the fingerprint of the configuration, the pairs and the message numbers; it is what was saved last, and nothing else changed
 pub record HasSaved (ahead : ℕ) (old new : Publisher) (bytes : List ℕ) : Type 0 where
+  pub publisher : IsPublisher old
   pub state : StoredState
   pub is_state : IsState state
   pub bytes_are : bytes ≡ written state
