@@ -7,7 +7,7 @@ pub mod Placing
 pub mod Refreshing
 pub mod Rings
 pub mod Rising
-pub mod Restoring
+pub mod RestoredLives
 pub mod RowLists
 pub mod Sending
 pub mod Telling

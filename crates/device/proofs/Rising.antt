@@ -137,7 +137,7 @@ resumed-less keygroup now used sets old new behind =
 -- numbers that begin leave the senders
 pub begun-senders : (count : ℕ) (words : List ℕ) (old new : Publisher) → HaveNumbersBegun count words old new → new.senders.items ≡ old.senders.items
 begun-senders zero words old new have = ap (λ (p : Publisher). p.senders.items) have
-begun-senders (suc count) words old new (mid, have, step) = by_step step ∙ begun-senders count words old mid have
+begun-senders (suc count) words old new (mid, (have, step)) = by_step step ∙ begun-senders count words old mid have
   where
     by_step : HasBegunAt (count / 16) (count % 16) (message_word words (count / 16) (count % 16) % 2 ^ 16) mid new ⊎ (MayNotBegin (count / 16) (count % 16) mid × (new ≡ mid))
         → new.senders.items ≡ mid.senders.items
@@ -156,7 +156,7 @@ gone-less now keygroup pair old new sender gone = by_case gone.is
 
 pub gone-all-less : (now count : ℕ) (words : List ℕ) (old new : Publisher) → HaveGoneOn now count words old new → FallBackNever old.senders.items new.senders.items
 gone-all-less now zero words old new have = never-same-as old.senders.items new.senders.items (ap (λ (p : Publisher). p.senders.items) have)
-gone-all-less now (suc count) words old new (mid, have, step) =
+gone-all-less now (suc count) words old new (mid, (have, step)) =
     never-never old.senders.items mid.senders.items new.senders.items (gone-all-less now count words old mid have)
     (gone-less now count (pair_in words count) mid new (get_or mid.senders.items count no_sender) (step no_sender))
 

@@ -1,4 +1,4 @@
-use Rattle.device.proofs.Restoring.{saves-no-lower, store-kept}
+use Rattle.device.proofs.RestoredLives.{saves-no-lower, store-kept}
 use Rattle.device.proofs.laws.what_is_saved_may_be_in_store.Goals as goal
 
 pub returns-clause-kept : goal.returns-clause-kept

@@ -22,7 +22,7 @@ use Rattle.device.specs.declared.asked.Next.{Next}
 use Rattle.device.specs.declared.publisher.Publisher.{Publisher}
 use Rattle.device.specs.declared.store.Saved.{Saved as SavedState}
 use Rattle.device.specs.declared.store.Store.{Store}
-use Rattle.device.proofs.Rising.{apart, begun-senders, called-less, gone-less, gone-all-less, never-at, never-falls, restored-less, turned-less}
+use Rattle.device.proofs.Rising.{apart, begun-senders, gone-less, gone-all-less, never-at, never-falls, restored-less, turned-less}
 use Rattle.device.proofs.Sending.{no_sender}
 
 -- ---- pairs
@@ -241,7 +241,7 @@ gone-standing now keygroup pair old new within gone low = by_case gone.is
 gone-stay : (now count : ℕ) (words : List ℕ) (old new : Publisher) (keygroup : ℕ) (d : SenderState) → count ≤ keygroup → HaveGoneOn now count words old new
     → get_or new.senders.items keygroup d ≡ get_or old.senders.items keygroup d
 gone-stay now zero words old new keygroup d low have = ap (λ (p : Publisher). get_or p.senders.items keygroup d) have
-gone-stay now (suc count) words old new keygroup d low (mid, have, step) =
+gone-stay now (suc count) words old new keygroup d low (mid, (have, step)) =
     by_case ((step no_sender).is) ∙ gone-stay now count words old mid keygroup d (omega (arith, low)) have
   where
     sender : SenderState
@@ -255,32 +255,39 @@ gone-stay now (suc count) words old new keygroup d low (mid, have, step) =
         ap (λ (l : List SenderState). get_or l keygroup d) (behind.others d) ∙ get_or-set_other mid.senders.items count keygroup (get_or new.senders.items count d) d differs
     by_case (inr stays) = ap (λ (p : Publisher). get_or p.senders.items keygroup d) stays.1
 
+timely-token : (now : ℕ) (pair : ℕ × ℕ) (sets : List KeySet) (set : KeySet) → ¬ IsEarlier now pair.0 sets → current sets now ≡ Some set → pair.0 ≤ set.token
+timely-token now pair sets set timely is = by_token (cases_lt set.token pair.0)
+  where
+    by_token : (set.token < pair.0) ⊎ (pair.0 ≤ set.token) → pair.0 ≤ set.token
+    by_token (inl less) = absurd (timely (record { set = set; is = is; earlier = less }))
+    by_token (inr more) = more
+
+-- the sender whose turn it is to go on
+gone-here : (now count : ℕ) (words : List ℕ) (old mid new : Publisher) → count < length old.senders.items → ¬ IsEarlier now (pair_in words count).0 (get_or old.senders.items count no_sender).sets
+    → HaveGoneOn now count words old mid → HasGoneOn now count (pair_in words count) mid new (get_or mid.senders.items count no_sender) → IsNoLower (pair_in words count) (standing count new)
+gone-here now count words old mid new within timely have gone =
+    let same : get_or mid.senders.items count no_sender ≡ get_or old.senders.items count no_sender = gone-stay now count words old mid count no_sender (omega arith) have in
+    let current_is : current (get_or old.senders.items count no_sender).sets now ≡ Some gone.set = ap (λ (s : SenderState). current s.sets now) (sym same) ∙ gone.current_is in
+    let never = gone-all-less now count words old mid have in
+    gone-standing now count (pair_in words count) mid new (omega (arith, within, never-count old.senders.items mid.senders.items never)) gone
+    (timely-token now (pair_in words count) (get_or old.senders.items count no_sender).sets gone.set timely current_is)
+
+gone-by : (now count : ℕ) (words : List ℕ) (old mid new : Publisher) (keygroup : ℕ) → (keygroup ≡ count) ⊎ (keygroup ≡ count → ⊥) → keygroup < suc count → keygroup < length old.senders.items
+    → ¬ IsEarlier now (pair_in words keygroup).0 (get_or old.senders.items keygroup no_sender).sets → HaveGoneOn now count words old mid
+    → HasGoneOn now count (pair_in words count) mid new (get_or mid.senders.items count no_sender) → (keygroup < count → IsNoLower (pair_in words keygroup) (standing keygroup mid))
+    → IsNoLower (pair_in words keygroup) (standing keygroup new)
+gone-by now count words old mid new keygroup (inl here) low within timely have gone before =
+    subst (λ (n : ℕ). IsNoLower (pair_in words n) (standing n new)) (sym here)
+    (gone-here now count words old mid new (omega (arith, within, here)) (subst (λ (n : ℕ). ¬ IsEarlier now (pair_in words n).0 (get_or old.senders.items n no_sender).sets) here timely) have gone)
+gone-by now count words old mid new keygroup (inr differs) low within timely have gone before =
+    lower-lower (pair_in words keygroup) (standing keygroup mid) (standing keygroup new) (before (omega (arith, low, differs)))
+    (never-standing keygroup mid new (gone-less now count (pair_in words count) mid new (get_or mid.senders.items count no_sender) gone))
+
 gone-on : (now count : ℕ) (words : List ℕ) (old new : Publisher) (keygroup : ℕ) → keygroup < count → keygroup < length old.senders.items
     → ¬ IsEarlier now (pair_in words keygroup).0 (get_or old.senders.items keygroup no_sender).sets → HaveGoneOn now count words old new → IsNoLower (pair_in words keygroup) (standing keygroup new)
 gone-on now zero words old new keygroup low within timely have = absurd (omega (arith, low))
-gone-on now (suc count) words old new keygroup low within timely (mid, have, step) = by_place (cases_eq keygroup count)
-  where
-    never : FallBackNever old.senders.items mid.senders.items
-    never = gone-all-less now count words old mid have
-
-    by_place : (keygroup ≡ count) ⊎ (keygroup ≡ count → ⊥) → IsNoLower (pair_in words keygroup) (standing keygroup new)
-    by_place (inl here) =
-        let gone : HasGoneOn now keygroup (pair_in words keygroup) mid new (get_or mid.senders.items keygroup no_sender) =
-        subst (λ (n : ℕ). HasGoneOn now n (pair_in words n) mid new (get_or mid.senders.items n no_sender)) (sym here) (step no_sender) in
-        let same : get_or mid.senders.items keygroup no_sender ≡ get_or old.senders.items keygroup no_sender = gone-stay now count words old mid keygroup no_sender (omega (arith, here)) have in
-        let current_is : current (get_or old.senders.items keygroup no_sender).sets now ≡ Some gone.set =
-        ap (λ (s : SenderState). current s.sets now) (sym same) ∙ gone.current_is in
-        gone-standing now keygroup (pair_in words keygroup) mid new (omega (arith, within, never-count old.senders.items mid.senders.items never)) gone
-        (by_token gone.set current_is (cases_lt gone.set.token (pair_in words keygroup).0))
-      where
-        by_token : (set : KeySet) → current (get_or old.senders.items keygroup no_sender).sets now ≡ Some set → (set.token < (pair_in words keygroup).0) ⊎ ((pair_in words keygroup).0 ≤ set.token)
-            → (pair_in words keygroup).0 ≤ set.token
-        by_token set is (inl less) = absurd (timely (record { set = set; is = is; earlier = less }))
-        by_token set is (inr more) = more
-    by_place (inr differs) =
-        lower-lower (pair_in words keygroup) (standing keygroup mid) (standing keygroup new)
-        (gone-on now count words old mid keygroup (omega (arith, low, differs)) within timely have)
-        (never-standing keygroup mid new (gone-less now count (pair_in words count) mid new (get_or mid.senders.items count no_sender) (step no_sender)))
+gone-on now (suc count) words old new keygroup low within timely (mid, (have, step)) =
+    gone-by now count words old mid new keygroup (cases_eq keygroup count) low within timely have (step no_sender) (λ less. gone-on now count words old mid keygroup less within timely have)
 
 pub restored-no-lower : (now : ℕ) (state : StoredState) (old new : Publisher) (keygroup : ℕ) → keygroup < length old.senders.items → HasRestored now state old new
     → IsNoLower (pair_in state.words keygroup) (standing keygroup new)
@@ -298,6 +305,7 @@ restored-no-lower now state old new keygroup within has =
 
 -- a number that is given is of a key group that is there
 given-within : (keygroup now : ℕ) (old new : List SenderState) (pair : ℕ × ℕ) → HoldsAt (λ was. HoldsAt (IsGiven now pair was) new keygroup) old keygroup → keygroup < length new
+  unfolding no_sender
 given-within keygroup now old new pair gives = by_place (cases_lt keygroup (length new))
   where
     by_place : (keygroup < length new) ⊎ (length new ≤ keygroup) → keygroup < length new
@@ -310,6 +318,7 @@ given-within keygroup now old new pair gives = by_place (cases_lt keygroup (leng
 
 -- the sender that takes it is there too
 taken-within : (keygroup now : ℕ) (old new : List SenderState) (pair : ℕ × ℕ) → HoldsAt (λ was. HoldsAt (IsGiven now pair was) new keygroup) old keygroup → keygroup < length old
+  unfolding no_sender
 taken-within keygroup now old new pair gives = by_place (cases_lt keygroup (length old))
   where
     other : SenderState
