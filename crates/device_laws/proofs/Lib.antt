@@ -1,3 +1,4 @@
+mod Alike
 mod AnyLength
 mod Counting
 mod Doing

@@ -41,6 +41,7 @@ use Rattle.device_laws.specs.Devices.{ArePaired, ArePairedByOne, HasSentFew, Hol
 use Rattle.device_laws.specs.Publishing.{HasOffered, PublisherLife, config_in}
 use Rattle.device_laws.specs.Subscribing.{AreOwnKeys, AreSubscriberSteps, Came, Expired, IsOpenSubscriber, IsSubscriberCall, IsTaken, Only, Reading, Refused, Renewed, SubscriberCall, SubscriberLife, SubscriberStep, Switched, TakenAre, event_by, events, events_in, is_for, reading, readers_on, setting_in, some_if, subscriber_after, subscriber_in}
 use Rattle.device_laws.specs.Turning.{past_in}
+use Rattle.device_laws.proofs.Alike.{alike-came, alike-member, alike-same, seated}
 use Rattle.device_laws.proofs.WholeRows.{named-sent}
 use Rattle.device_laws.proofs.Heard.{keeps-member, plain-reading, stands-at, subscriber-is}
 use Rattle.device_laws.proofs.Offered.{offered-made}
@@ -177,7 +178,7 @@ module _ (ring : RingLaw) (text other : List ℕ) (pl : PublisherLife) (sl : Sub
 
   came : CameAsMade (setting_by (config_in pl) readers) (config_in pl) (past_in pl) (events_in sl r)
   came =
-      subst (λ (s : Setting). CameAsMade s (config_in pl) (past_in pl) (events_in sl r)) are.set_as
+      alike-came i (setting_in sl r) (setting_by (config_in pl) readers) are.alike (config_in pl) (past_in pl) (events_in sl r)
       (came-made other sl.first r are.subscriber.opened are.read_there (HasOffered pl.steps) (config_in pl) (past_in pl)
       (λ datagram has. offered-made text pl.first are.publisher.opened pl.steps are.publisher.steps_are datagram has) sl.steps are.subscriber.steps_are are.keys are.took)
 
@@ -200,7 +201,7 @@ module _ (ring : RingLaw) (text other : List ℕ) (pl : PublisherLife) (sl : Sub
   pub member-is : member_in sl r i ≡ its_member p
   member-is =
       ap (λ (x : Reading). member_at x.value.members i) (plain-reading sl.first r sl.steps are.keys)
-      ∙ ap (λ (s : Setting). member_at (plain s (events_in sl r)).members i) are.set_as
+      ∙ alike-member i (setting_in sl r) (setting_by (config_in pl) readers) are.alike (seated (config_in pl) readers i are.matched.within) (events_in sl r)
 
   pub keeps-by : PlayLaws → HasSentFew 16385 pl g w → MemberIs (its_way p) (its_marks p) (member_in sl r i)
   keeps-by laws few = subst (MemberIs (its_way p) (its_marks p)) (sym member-is) (laws.keeps p (is-play 16385 few))
@@ -232,7 +233,8 @@ one-text text pl sl r i g w are =
       subscriber = are.subscriber;
       there = are.there;
       read_there = are.read_there;
-      set_as = ap (λ (c : Config). setting_of c r) same;
+      alike = alike-same i (setting_in sl r) (setting_of (config_in pl) r) (ap (λ (c : Config). setting_of c r) same)
+          (seated (config_in pl) (read_group_at (config_in pl) r) i are.matched.within);
       matched = are.matched;
       rings = are.rings;
       keys = are.keys;
