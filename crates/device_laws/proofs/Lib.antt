@@ -19,6 +19,7 @@ mod Publishes
 mod PulledReads
 mod PulledTurns
 mod Reaching
+mod Restarting
 mod RingedReads
 mod Ringing
 mod Rows
