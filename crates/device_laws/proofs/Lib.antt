@@ -8,12 +8,15 @@ mod KnownSenders
 mod Looking
 mod Moment
 mod Multiples
+mod NearReads
 mod Offered
 mod OtherRings
 mod OwnRinged
 mod OwnRings
 mod Owning
 mod Pairs
+mod PlacedItems
+mod PlacedReads
 mod PlainReads
 mod Publishes
 mod PulledReads

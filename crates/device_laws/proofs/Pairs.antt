@@ -176,7 +176,7 @@ module _ (ring : RingLaw) (text other : List ℕ) (pl : PublisherLife) (sl : Sub
   abbrev its_few : ℕ → Type 0
   its_few most = HasSentFew most pl g w
 
-  came : CameAsMade (setting_by (config_in pl) readers) (config_in pl) (past_in pl) (events_in sl r)
+  pub came : CameAsMade (setting_by (config_in pl) readers) (config_in pl) (past_in pl) (events_in sl r)
   came =
       alike-came i (setting_in sl r) (setting_by (config_in pl) readers) are.alike (config_in pl) (past_in pl) (events_in sl r)
       (came-made other sl.first r are.subscriber.opened are.read_there (HasOffered pl.steps) (config_in pl) (past_in pl)

@@ -98,7 +98,7 @@ turned-less : (now : ℕ) (s : SenderState) → IsNoLess s (turned s now)
 turned-less now s = turned-by s (current s.sets now)
 
 turned-lower : (s now_is : SenderState) (pair : ℕ × ℕ) → IsNoLower (stand_of s) (stand_of now_is) → pair.0 ≡ now_is.keys.token → now_is.used < pair.1 → IsLower (stand_of s) pair
-turned-lower s now_is pair no token follows = lower (stand_of s) (stand_of now_is) pair no (inr (sym token, follows))
+turned-lower s now_is pair less token follows = lower (stand_of s) (stand_of now_is) pair less (inr (sym token, follows))
 
 given-before : (k : ℕ) (call : PublisherCall) (old new : Publisher) (pair : ℕ × ℕ) → Gives k (numbers_of call) old new pair → IsLower (stand k old) pair
 given-before k (CameTo now next did) old new pair gives =
@@ -137,15 +137,14 @@ module _ (falls : FallLaw) (k : ℕ) (first : Publisher) where
   once-given (later ∷ since) step before pair other are gives has same = once-given since step before pair other are.2 gives has same
 
   -- what was given since is above where it stood
-  since-lower : (since mid : List PublisherStep) (pair : ℕ × ℕ) → ArePublisherSteps first (since ++ mid) → HasGiven k first (since ++ mid) pair
-      → IsLower (stand k (publisher_after first mid)) pair ⊎ HasGiven k first mid pair
   since-stands : (since mid : List PublisherStep) → ArePublisherSteps first (since ++ mid) → IsNoLower (stand k (publisher_after first mid)) (stand k (publisher_after first (since ++ mid)))
-
   since-stands [] mid are = no-lower-same (stand k (publisher_after first mid))
   since-stands (step ∷ since) mid are =
       no-lower (stand k (publisher_after first mid)) (stand k (publisher_after first (since ++ mid))) (stand k step.after) (since-stands since mid are.2)
       (one-call step.call (publisher_after first (since ++ mid)) step.after are.1)
 
+  since-lower : (since mid : List PublisherStep) (pair : ℕ × ℕ) → ArePublisherSteps first (since ++ mid) → HasGiven k first (since ++ mid) pair
+      → IsLower (stand k (publisher_after first mid)) pair ⊎ HasGiven k first mid pair
   since-lower [] mid pair are has = inr has
   since-lower (step ∷ since) mid pair are (inl gives) =
       inl (lower (stand k (publisher_after first mid)) (stand k (publisher_after first (since ++ mid))) pair (since-stands since mid are.2)

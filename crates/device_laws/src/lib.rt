@@ -3,6 +3,7 @@
 #![tactic(auto)]
 
 mod laws;
+mod near;
 mod restarts;
 mod run;
 mod signed;
@@ -12,6 +13,7 @@ pub use laws::{
     a_paired_reader_holds_what_was_published, a_publisher_sends_turns_of_its_groups,
     a_subscriber_reads_what_came, each_call_is_a_step_of_a_life,
 };
+pub use near::readers_hold_whole_rows_where_places_are_near;
 pub use restarts::no_number_is_given_again_after_a_restart;
 pub use run::{Pair, run_once};
 pub use signed::{
