@@ -5,6 +5,7 @@ mod Doing
 mod Elements
 mod Heard
 mod KnownSenders
+mod LargerLives
 mod Looking
 mod Moment
 mod Multiples

@@ -34,11 +34,12 @@ use Rattle.session_laws.specs.Below.{RingLaw}
 use Rattle.session_laws.specs.Pasts.{CameAsMade, IsMade}
 use Rattle.session_laws.specs.Plays.{ComesFromWriter, HoldsVersion, IsPlay, Play, its_marks, its_member, its_meta, its_way}
 use Rattle.device.specs.declared.listening.Listening.{Listening}
+use Rattle.device.specs.declared.publisher.Publisher.{Publisher}
 use Rattle.device.specs.declared.subscriber.Subscriber.{Subscriber}
 use Rattle.device.specs.Readings.{IsReaderAt}
 use Rattle.device.specs.Sides.{HasListened, TakesNumber}
 use Rattle.device_laws.specs.Devices.{ArePaired, ArePairedByOne, HasSentFew, HoldsNamed, IsCounted, member_in, play_of}
-use Rattle.device_laws.specs.Publishing.{HasOffered, PublisherLife, config_in}
+use Rattle.device_laws.specs.Publishing.{HasOffered, IsOpenPublisher, PublisherLife, config_in}
 use Rattle.device_laws.specs.Subscribing.{AreOwnKeys, AreSubscriberSteps, Came, Expired, IsOpenSubscriber, IsSubscriberCall, IsTaken, Only, Reading, Refused, Renewed, SubscriberCall, SubscriberLife, SubscriberStep, Switched, TakenAre, event_by, events, events_in, is_for, reading, readers_on, setting_in, some_if, subscriber_after, subscriber_in}
 use Rattle.device_laws.specs.Turning.{past_in}
 use Rattle.device_laws.proofs.Alike.{alike-came, alike-member, alike-same, seated}
@@ -225,9 +226,12 @@ module _ (ring : RingLaw) (text other : List ℕ) (pl : PublisherLife) (sl : Sub
 some-ok : {A B : Type 0} (x y : A) → Path (Result A B) (Ok x) (Ok y) → x ≡ y
 some-ok x y e = cc
 
+pub same-config : (text : List ℕ) (publisher : Publisher) (subscriber : Subscriber) → IsOpenPublisher text publisher → IsOpenSubscriber text subscriber → subscriber.config ≡ publisher.config
+same-config text publisher subscriber one other = some-ok subscriber.config publisher.config (sym other.config_is ∙ one.config_is)
+
 pub one-text : (text : List ℕ) (pl : PublisherLife) (sl : SubscriberLife) (r i g w : ℕ) → ArePairedByOne text pl sl r i g w → ArePaired text text pl sl (read_group_at (config_in pl) r) r i g w
 one-text text pl sl r i g w are =
-    let same : sl.first.config ≡ config_in pl = some-ok sl.first.config (config_in pl) (sym are.subscriber.opened.config_is ∙ are.publisher.opened.config_is) in
+    let same : sl.first.config ≡ config_in pl = same-config text pl.first sl.first are.publisher.opened are.subscriber.opened in
     record {
       publisher = are.publisher;
       subscriber = are.subscriber;

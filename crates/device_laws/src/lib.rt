@@ -22,4 +22,7 @@ pub use signed::{
     readers_of_pulled_keys_hold_what_was_published, secured_readers_hold_whole_rows_at_any_length,
     what_came_signed_was_made_by_the_publisher,
 };
-pub use witness::a_small_life_meets_the_premises;
+pub use witness::{
+    a_renewed_life_with_a_loss_meets_the_premises, a_small_life_meets_the_premises,
+    a_small_secured_life_meets_the_premises,
+};
