@@ -83,7 +83,7 @@ fn hear<R: Files + Print + Clock, L: Link>(
             Ok(now)
         }
         Received::Long(_) | Received::Failed => {
-            listener.lose();
+            listener.fail();
             Ok(now)
         }
         Received::Nothing => Ok(now),
