@@ -18,7 +18,12 @@ pub fn part_cause(fault: PartFault, heard: &Heard, part: &ReaderPart, fields: u6
         PartFault::Chunk(ChunkFault::BadLength) => Cause::named("BadLength"),
         PartFault::TooLong { total } => {
             let total = u64::from(total);
-            Cause::told("TooLong", ", came # bytes, at most 4096 are joined", total, 0)
+            Cause::told(
+                "TooLong",
+                ", came # bytes, at most 4096 are joined",
+                total,
+                0,
+            )
         }
         PartFault::BadRange { offset, total } => {
             let pattern = ", came from byte # on, of # in all";

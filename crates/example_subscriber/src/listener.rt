@@ -131,12 +131,16 @@ impl<'c> Listener<'c> {
         self.counts.refuse(word)
     }
 
-    /// Goes on with these keys, and says so.
-    pub fn renew<R: Print>(&mut self, rt: &R, now: u64, ring: Ring) -> Result<(), Fault>
+    /// Goes on with these keys.
+    pub fn renew(&mut self, ring: Ring)
         requires { IsListener self.old }
         ensures { IsListener self.new }
     {
         self.group.renew(ring);
+    }
+
+    /// Says that it goes on with other keys.
+    pub fn tell_keys<R: Print>(&self, rt: &R, now: u64) -> Result<(), Fault> {
         match self.view {
             View::News => println!(rt; "{now}: goes on with new keys").map_err(unwritten),
             View::Live { .. } => Ok(()),
@@ -198,7 +202,12 @@ impl<'c> Listener<'c> {
         let Some(last) = &self.group.refused().last else {
             return Ok(());
         };
-        put_refusal(&mut self.lines, last, &self.refused, first_group(self.config))?;
+        put_refusal(
+            &mut self.lines,
+            last,
+            &self.refused,
+            first_group(self.config),
+        )?;
         Ok(put_feed(&mut self.lines)?)
     }
 

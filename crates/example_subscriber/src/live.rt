@@ -14,9 +14,8 @@ pub const DRAWING: u64 = 100;
 /// Over how long messages are counted for a rate, in milliseconds.
 const SECOND: u64 = 1000;
 
-/// How many columns a line has at most, and after how many a word begins another one.
-const COLUMNS: u64 = 79;
-const FULL: u64 = 60;
+/// How many columns a line has at most.
+const COLUMNS: usize = 79;
 
 /// What was seen of a reader's messages.
 #[derive(Clone, Copy)]
@@ -134,17 +133,31 @@ pub fn put_drawing(out: &mut Vec<u8>, lines: &[u8], drawn: u64) -> Result<u64, F
 
 fn put_folded(out: &mut Vec<u8>, lines: &[u8]) -> Result<u64, Fault> {
     let mut count = 0u64;
-    let mut column = 0u64;
-    for byte in lines {
-        if *byte == b'\n' || column >= COLUMNS || column >= FULL && *byte == b' ' {
+    let mut column = 0;
+    for at in 0..lines.len() {
+        let byte = lines[at];
+        let is_full = byte == b' '
+            && column > 0
+            && column + word_length(&lines[at + 1..]) >= COLUMNS;
+        if byte == b'\n' || is_full || column >= COLUMNS {
             put_feed(out)?;
             count = count.saturating_add(1);
             column = 0;
         }
-        if *byte != b'\n' {
-            out.push(*byte)?;
+        if byte != b'\n' {
+            out.push(byte)?;
             column += 1;
         }
     }
     Ok(count)
+}
+
+/// How many bytes stand before the next space or the end of the line; a word that is longer than a line is as long as one.
+fn word_length(bytes: &[u8]) -> usize {
+    for at in 0..bytes.len().min(COLUMNS) {
+        if bytes[at] == b' ' || bytes[at] == b'\n' {
+            return at;
+        }
+    }
+    bytes.len().min(COLUMNS)
 }

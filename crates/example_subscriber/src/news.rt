@@ -181,7 +181,8 @@ impl Told {
         if !draws {
             return Ok(());
         }
-        self.mark.put_lines(out, now, glance, standing, &self.untaken)
+        self.mark
+            .put_lines(out, now, glance, standing, &self.untaken)
     }
 
     /// What hangs on the values of a reader runs while its row is fresh: one is held that was confirmed a short time ago. A timeout alone

@@ -187,12 +187,7 @@ impl Untaken {
     }
 
     /// All counts, and the last fault.
-    pub fn put_sums(
-        &self,
-        out: &mut Vec<u8>,
-        notice: &Notice,
-        meta: &Meta,
-    ) -> Result<(), Fault> {
+    pub fn put_sums(&self, out: &mut Vec<u8>, notice: &Notice, meta: &Meta) -> Result<(), Fault> {
         fill(
             out,
             " stored #, lost #, unreadable #, passed over",
