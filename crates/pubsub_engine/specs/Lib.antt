@@ -6,3 +6,4 @@ pub mod Authored
 pub mod LifeEnds
 pub mod Ending
 pub mod Logs
+pub mod Opened
