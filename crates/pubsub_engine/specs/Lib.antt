@@ -7,3 +7,4 @@ pub mod LifeEnds
 pub mod Ending
 pub mod Logs
 pub mod Opened
+pub mod Told
