@@ -13,10 +13,11 @@ new_cells-requires-clause-count g c =
 
 pub new_session-requires-clause-passes : goal.new_session-requires-clause-passes
 new_session-requires-clause-passes g c =
-    let made = c.in_ok-cells.cells in
-    (made.bank,
-    new-bank c.args.config.now.dataset c.args.size.now.appends.items made.bank (c.in_ok-cells.ensures.metas ∙ c.deref.ensures.value ∙ c.requires.sets.full),
-    c.in_ok-cells.ensures.first)
+    let made = c.in_ok-cells.cells in (
+      made.bank,
+      new-bank c.args.config.now.dataset c.args.size.now.appends.items made.bank (c.in_ok-cells.ensures.metas ∙ c.deref.ensures.value ∙ c.requires.sets.full),
+      c.in_ok-cells.ensures.first,
+    )
 
 pub new_session-requires-clause-keeper : goal.new_session-requires-clause-keeper
 new_session-requires-clause-keeper g c =
