@@ -1,6 +1,6 @@
 -- How a session that is performed over a link uses it, from what its calls did.
 use Rattle.std.proofs.Common.{◌≡◌, ◌≤◌, ◌+◌, inl, inr, ℕ, Bool, true, false, List, Option, Some, Result, Ok, Err, refl, sym, ap, ◌∙◌, subst, arith}
-use Rattle.std.specs.Prelude.{◌≢◌, IsErrAnd, IsOk}
+use Rattle.std.specs.Prelude.{◌≢◌, IfErr, IsErrAnd, IsOk}
 use Rattle.std.proofs.lemmas.Bool.{false≢true}
 use Rattle.ua_base.specs.Cause.{Rose, counted_if}
 use Rattle.ua_base.specs.Journal.{LinkState}
@@ -16,7 +16,7 @@ use Rattle.ps_script.specs.Sessions.{fates_of}
 use Rattle.session_model.specs.Counts.{session_nothings}
 use Rattle.script_player.specs.declared.play.PlayEnd.{PlayEnd}
 use Rattle.script_player.specs.declared.play.PlayEnd.TheVariants.{Memory, Unopened}
-use Rattle.script_player.specs.Openings.{PerformsOver}
+use Rattle.script_player.specs.Openings.{OpensSo, PerformsOver}
 use Rattle.script_player.specs.Plays.{opening_of}
 
 -- ---- ends
@@ -35,6 +35,9 @@ closed-unopened closed e = cc
 -- nor did a session that was performed
 pub performed-opened : {T : Type 0} {closed : T} → Path (Result T PlayEnd) (Ok closed) (Err Unopened) → ⊥
 performed-opened {T} {closed} e = closed-unopened closed e
+
+pub memory-isnt : Path PlayEnd Memory Unopened → ⊥
+memory-isnt e = cc
 
 same-end : {T : Type 0} (end : PlayEnd) → Path (Result T PlayEnd) (Err end) (Err Unopened) → end ≡ Unopened
 same-end end e = cc
@@ -130,3 +133,24 @@ module _ {L : Type 0} (told : L → Option LinkState) (patience : L → ℕ) (op
       } in
       subst (λ (l : L). PerformsOver told patience opened_with faults made openings opening performed unopened l last) from
       (subst (λ (l : L). PerformsOver told patience opened_with faults made openings opening performed unopened (behind old) l) (sym to) same)
+
+  -- an end for want of memory before it was used
+  pub err-unused : {T : Type 0} (result : Result T PlayEnd) (link : L) → IsErrAnd result (λ end. end ≡ Memory)
+      → IfErr result (λ end. PerformsOver told patience opened_with faults made openings opening ⊥ (end ≡ Unopened) link link)
+  err-unused (Ok done) link h = absurd h
+  err-unused (Err end) link h = performs-unused ⊥ (end ≡ Unopened) link ((λ no. no), (λ is. memory-isnt (sym h ∙ is)))
+
+  -- what ended so for another result ended so for this one
+  pub refused-as : {T : Type 0} (result : Result T PlayEnd) (end : PlayEnd) (old new : L) → IsErrAnd result (λ other. other ≡ end)
+      → PerformsOver told patience opened_with faults made openings opening ⊥ (end ≡ Unopened) old new
+      → PerformsOver told patience opened_with faults made openings opening (IsOk result) (result ≡ Err Unopened) old new
+  refused-as (Ok done) end old new h over = absurd h
+  refused-as (Err other) end old new h over =
+      performs-as ⊥ (end ≡ Unopened) _ _ old new (λ is. absurd (false≢true is)) (λ is. sym h ∙ same-end other is) over
+
+  -- it was opened so, and what was done over it then kept it
+  pub performs-so : (performed unopened : Type 0) (nothings : ℕ) (old opened new : L) → nothings ≤ session_nothings → (unopened → ⊥)
+      → OpensSo told patience opened_with faults made openings opening old opened → KeepsLink told patience opened_with faults made openings nothings opened new
+      → PerformsOver told patience opened_with faults made openings opening performed unopened old new
+  performs-so performed unopened nothings old opened new few never so kept =
+      performs-opened performed unopened nothings old opened new few never so.opened so.counted so.lasts so.making so.once kept

@@ -235,6 +235,14 @@ pub record Closes (old : Player) (told after : Option LinkState) (closed : Close
   pub ends : Passes 0 true old new told after
   pub by : IsClosedBy new closed
 
+-- the lines of a script were played, and then the player was closed
+pub record IsPlayedOut (config : Config) (script : Script) (after : Option LinkState) (closed : Closed) : Type 0 where
+  pub player : Player
+  pub told : Option LinkState
+  pub is : IsPlayer player
+  pub played : HasPlayed config script (reverse script.lines) told player
+  pub closes : Closes player told after closed
+
 -- ---- what follows the session
 
 -- the passes that look came to see exactly the stores that there are, and nothing else changed

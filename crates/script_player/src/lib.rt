@@ -8,6 +8,6 @@ mod player;
 mod sizes;
 
 pub use passing::pass;
-pub use play::{PlayEnd, play_script};
+pub use play::{PlayEnd, open_link, play_script};
 pub use player::Player;
 pub use sizes::size_of;

@@ -1,10 +1,10 @@
 //! A whole script, from the opening of its session to its close.
-ghost use Rattle.std.specs.Prelude.{◌≡◌, IsOk, IfOk, Err};
+ghost use Rattle.std.specs.Prelude.{◌≡◌, IsOk, IfErr, IfOk, OnOk, Err};
 ghost use Rattle.ps_config.specs.Types.{HasTypes};
 ghost use Rattle.ps_report.specs.Conditions.{IsClosedOf};
 ghost use Rattle.ps_script.specs.Sound.{IsScript};
 ghost use Rattle.writer_group.specs.Standing.{IsGood};
-ghost use Rattle.script_player.specs.Openings.{PerformsOver};
+ghost use Rattle.script_player.specs.Openings.{OpensSo, PerformsOver, RefusesSo};
 ghost use Rattle.script_player.specs.Plays.{IsPlayOf, opening_of};
 
 use crate::player::Player;
@@ -71,13 +71,29 @@ pub fn play_script<R: Wait, L: Link>(
     histories_are_the_models();
     a_closed_session_tells_the_headline();
     let size = size_of(config, script);
-    let mut player = Player::open(rt, alloc, config, &size)?;
+    let player = Player::open(rt, alloc, config, &size)?;
+    open_link(alloc, config, script, link)?;
+    Ok(player.play_out(rt, alloc, script, link)?)
+}
+
+/// Opens a link with the configuration's port and the script's fates, or says why it isn't open.
+pub fn open_link<L: Link>(
+    alloc: Global,
+    config: &Config,
+    script: &Script,
+    link: &mut L,
+) -> Result<(), PlayEnd>
+    requires { IsScript config.now script.now }
+    ensures opens { OnOk result
+        (OpensSo L.told L.patience L.opened_with L.faults L.made L.openings
+        (opening_of config.now script.now) link.old link.new) }
+    ensures refused { IfErr result (λ end.
+        RefusesSo L.told L.patience L.opened_with L.faults L.made L.openings
+        (opening_of config.now script.now) (end ≡ PlayEnd.Unopened) link.old link.new) }
+{
     match link.open(config.publisher.port, &script.fates(alloc)?) {
-        Opened::Done => {}
-        Opened::Failed => return Err(PlayEnd::Unopened),
-        Opened::Memory => return Err(PlayEnd::Memory),
+        Opened::Done => Ok(()),
+        Opened::Failed => Err(PlayEnd::Unopened),
+        Opened::Memory => Err(PlayEnd::Memory),
     }
-    player.play(rt, alloc, script, link)?;
-    player.end(rt, link)?;
-    Ok(player.close(alloc)?)
 }

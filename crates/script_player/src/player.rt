@@ -1,5 +1,5 @@
 //! What plays the lines of a script, one by one.
-ghost use Rattle.std.specs.Prelude.{◌≡◌, ◌<◌, ◌≤◌, [], ℕ, length, map, replicate, reverse, slice_get, slice_index, All, IsSome, IsTrue, IfOk, OnErr, OnOk, Some, List, true, false};
+ghost use Rattle.std.specs.Prelude.{◌≡◌, ◌<◌, ◌≤◌, ◌+◌, [], ℕ, length, map, replicate, reverse, slice_get, slice_index, All, IsSome, IsTrue, IfOk, OnErr, OnOk, Some, List, true, false};
 ghost use Rattle.ua_base.specs.Links.{KeepsLink};
 ghost use Rattle.version_cell.specs.Passes.{SeesMore};
 ghost use Rattle.version_cell.specs.Sets.{ArePassesOf, pass_at};
@@ -17,7 +17,7 @@ ghost use Rattle.target_cells.specs.Keeping.{AreSound};
 ghost use Rattle.pubsub_engine.specs.Holding.{AreAppends, appends_left, full_of, left_of, opening_left, plan_of};
 ghost use Rattle.pubsub_engine.specs.Standing.{IsOriginOf, Stands};
 ghost use Rattle.script_player.specs.Passing.{MayPass, nothings_by};
-ghost use Rattle.script_player.specs.Player.{Appends, AreDonesOf, Does, HasPlayed, IsClosedBy, IsNew, IsPlayer, Levels, MayAppend, MayDo, MaySwitch, MayWatch, MayWrite, Passes as PassesTick, Switches, Watches as WatchesReader, Writes, config_of};
+ghost use Rattle.script_player.specs.Player.{Appends, AreDonesOf, Does, HasPlayed, IsClosedBy, IsNew, IsPlayedOut, IsPlayer, Levels, MayAppend, MayDo, MaySwitch, MayWatch, MayWrite, Passes as PassesTick, Switches, Watches as WatchesReader, Writes, config_of};
 
 use crate::hand::Hand;
 use crate::passing::pass;
@@ -89,8 +89,30 @@ impl<'c> Player<'c> {
         })
     }
 
+    /// Plays the lines of a script in order, and closes the session with a closing tick and its pump.
+    pub(crate) fn play_out<R: Wait, L: Link>(
+        mut self,
+        rt: &R,
+        alloc: Global,
+        script: &Script,
+        link: &mut L,
+    ) -> Result<Closed, NoMemory>
+        requires open { IsSome (L.opened_with link.old) }
+        requires script { IsScript (config_of self) script.now }
+        requires player { IsPlayer self }
+        requires played { HasPlayed (config_of self) script.now [] (L.told link.old) self }
+        ensures closed { IfOk result
+            (IsPlayedOut (config_of self.entry) script.now (L.told link.new)) }
+        ensures link { KeepsLink L.told L.patience L.opened_with L.faults L.made L.openings
+            (ticks_in script.now.lines + 1) link.old link.new }
+    {
+        self.play(rt, alloc, script, link)?;
+        self.end(rt, link)?;
+        self.close(alloc)
+    }
+
     /// Plays the lines of a script in order.
-    pub(crate) fn play<R: Wait, L: Link>(
+    fn play<R: Wait, L: Link>(
         &mut self,
         rt: &R,
         alloc: Global,
