@@ -1,5 +1,5 @@
 -- A script that was run with threads, from its opening to its close.
-use Rattle.std.proofs.Common.{◌≡◌, ap, ◌∙◌, ℕ, ◌<◌, List, length, map, reverse, Option, Vec}
+use Rattle.std.proofs.Common.{◌≡◌, sym, ap, subst, ◌∙◌, ℕ, ◌<◌, List, length, map, reverse, Option, Vec}
 use Rattle.std.specs.Prelude.{All}
 use Rattle.std.specs.declared.alloc.Global.{Global}
 use Rattle.ua_base.specs.Journal.{LinkState}
@@ -12,7 +12,7 @@ use Rattle.cell_bank.specs.Hands.{AreHands}
 use Rattle.target_cells.specs.Keeping.{TargetsData}
 use Rattle.app_threads.specs.declared.done.Done.{Done}
 use Rattle.app_threads.specs.declared.item.Item.{Item}
-use Rattle.app_threads.specs.Crews.{AreDone, given_to, list_of}
+use Rattle.app_threads.specs.Crews.{AreDone, AreReady, given_to, list_of}
 use Rattle.app_threads.specs.Duties.{Duty}
 use Rattle.ps_config.specs.declared.parts.Config.{Config}
 use Rattle.ps_report.specs.declared.closed.Closed.{Closed}
@@ -33,7 +33,9 @@ use Rattle.script_runner.specs.Lists.{items_by}
 use Rattle.script_runner.specs.Runs.{IsRunOf}
 use Rattle.script_runner.proofs.Ended.{Ends, ends}
 use Rattle.script_runner.proofs.Legal.{ClosedHistoriesAreLegal}
-use Rattle.script_runner.proofs.Opened.{IsOpened, are-duties}
+use Rattle.script_runner.specs.Staged.{IsCompleted, IsOpened, IsStaged}
+use Rattle.script_runner.specs.declared.run.Staged.{Staged}
+use Rattle.script_runner.proofs.Opened.{are-duties}
 use Rattle.script_runner.proofs.Whole.{is-run, stands, steps}
 
 -- a session of the size that a script gives, with the script's lists, as opening it says
@@ -89,3 +91,18 @@ module _ (config : Config) (script : Script) (is : IsScript config script) (plan
     ran = λ rows tells-all. is-run config script is plan bank targets.cells dones told after session was h closed f rows tells-all all-ends;
     closed_of = all-ends.closed_of;
   }
+
+pub completes-as : (config : Config) (script : Script) → IsScript config script → (after : Option LinkState) (closed : Closed) → IsCompleted config script after closed → ClosedHistoriesAreLegal
+    → Completes config script after closed
+completes-as config script is after closed ran laws =
+    let staged = ran.is in
+    let bank = ran.staged.bank in
+    let targets = ran.staged.targets in
+    completes config script is staged.plan ran.staged.session bank targets staged.hands staged.watches staged.lists staged.opened ran.dones
+    (subst (λ (duties : List Duty). AreDone bank targets.cells duties ran.dones) staged.crew ran.done) ran.told after
+    ran.session ran.session_is ran.bank_is ran.targets_are ran.conducted closed ran.finishes laws
+
+pub crew-ready : (config : Config) (script : Script) → IsScript config script → (staged : Staged) → IsStaged config script staged → AreReady staged.bank staged.targets.cells staged.crew
+crew-ready config script is staged s =
+    subst (λ (duties : List Duty). AreReady staged.bank staged.targets.cells duties) (sym s.crew)
+    (are-duties config script is staged.session staged.bank staged.targets s.hands s.watches s.lists s.opened).ready

@@ -27,21 +27,8 @@ use Rattle.script_player.specs.Plays.{plan_by}
 use Rattle.script_player.specs.Sizes.{quotas_by}
 use Rattle.script_runner.specs.Ended.{AreDutiesOf}
 use Rattle.script_runner.specs.Finishing.{AreOwn}
-use Rattle.script_runner.specs.Lists.{items_by}
+use Rattle.script_runner.specs.Staged.{IsOpened}
 use Rattle.script_runner.proofs.Handing.{AreCellsOf, given-duties}
-
--- what opening a session for a script, and its lists, say
-pub record IsOpened (config : Config) (script : Script) (session : Session) (bank : List CellData) (targets : TargetsData) (hands : List (List Known)) (watches : List Known)
-    (lists : List (Vec Item Global)) : Type 0 where
-  pub plan : plan_of session ≡ plan_by config script
-  pub bank_is : IsBankOf session bank
-  pub cells : All IsCell bank
-  pub quotas : map (λ cell. cell.quotas) bank ≡ quotas_by (length config.dataset) script.lines
-  pub targets_are : AreTargetsOf session targets
-  pub hands_are : AreHands bank hands
-  pub own : ArePassesOf targets.cells watches
-  pub eight : length lists ≡ 8
-  pub lists_are : (thread : ℕ) → thread < 8 → list_of lists thread ≡ items_by thread script.lines
 
 module _ (config : Config) (script : Script) (is : IsScript config script) (session : Session) (bank : List CellData) (targets : TargetsData) (hands : List (List Known)) (watches : List Known)
     (lists : List (Vec Item Global)) (o : IsOpened config script session bank targets hands watches lists) where

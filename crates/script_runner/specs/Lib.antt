@@ -7,3 +7,4 @@ pub mod Lists
 pub mod Conducting
 pub mod Finishing
 pub mod Ended
+pub mod Staged

@@ -1,5 +1,5 @@
 //! A whole script, from the opening of its session to its close.
-ghost use Rattle.std.specs.Prelude.{◌≡◌, [], IsOk, IfOk, OnOk, IsSome, Err, reverse};
+ghost use Rattle.std.specs.Prelude.{◌≡◌, ◌+◌, [], IsOk, IfOk, OnOk, IsSome, Err, reverse};
 ghost use Rattle.ua_base.specs.Links.{KeepsLink};
 ghost use Rattle.ps_config.specs.Types.{HasTypes};
 ghost use Rattle.ps_report.specs.Conditions.{IsClosedOf};
@@ -12,6 +12,7 @@ ghost use Rattle.script_player.specs.Openings.{PerformsOver};
 ghost use Rattle.script_player.specs.Plays.{opening_of};
 ghost use Rattle.script_runner.specs.Conducting.{HasConducted};
 ghost use Rattle.script_runner.specs.Runs.{IsRunOf};
+ghost use Rattle.script_runner.specs.Staged.{IsCompleted, IsStaged, config_of};
 
 use crate::conductor::conduct;
 use crate::ending::finish;
@@ -22,13 +23,13 @@ use ps_config::Config;
 use ps_report::Closed;
 use ps_script::Script;
 use pubsub_engine::{Opening, Session};
-use script_player::{PlayEnd, size_of};
+use script_player::{PlayEnd, open_link, size_of};
 use session_laws::a_closed_session_tells_the_headline;
 use std::alloc::Global;
 use std::sync::Wait;
 use std::thread::Threads;
 use target_cells::Targets;
-use ua_base::{Gate, Link, NoMemory, Opened};
+use ua_base::{Gate, Link, NoMemory};
 use version_cell::histories_are_the_models;
 
 /// Runs a script over a link. It opens its session, and opens the link with the configuration's port and the script's fates. It
@@ -55,23 +56,79 @@ pub fn run_script<R: Threads + Wait + Sync, L: Link, G: Gate>(
     histories_are_the_models();
     closed_histories_are_legal();
     a_closed_session_tells_the_headline();
-    let size = size_of(config, script);
-    let Opening {
-        mut session,
-        bank,
-        hands,
-        targets,
-        mut watches,
-    } = Session::open(rt, alloc, config, &size)?;
-    let lists = lists_of(alloc, script)?;
-    let crew = Crew::new(alloc, hands, &targets, &mut watches, lists)?;
-    match link.open(config.publisher.port, &script.fates(alloc)?) {
-        Opened::Done => {}
-        Opened::Failed => return Err(PlayEnd::Unopened),
-        Opened::Memory => return Err(PlayEnd::Memory),
+    let staged = Staged::new(rt, alloc, config, script)?;
+    open_link(alloc, config, script, link)?;
+    Ok(staged.run(rt, alloc, script, link, gate)?)
+}
+
+/// A session before its first step, its cells, and the crew that writes and watches them.
+#[derive(Drop)]
+struct Staged<'c> {
+    session: Session<'c>,
+    bank: Bank,
+    targets: Targets,
+    crew: Crew,
+}
+
+impl<'c> Staged<'c> {
+    /// All memory but that of the end is taken here.
+    fn new<R: Wait>(
+        rt: &R,
+        alloc: Global,
+        config: &'c Config,
+        script: &Script,
+    ) -> Result<Staged<'c>, NoMemory>
+        requires good { IsGood config.now }
+        requires types { HasTypes config.now }
+        requires script { IsScript config.now script.now }
+        ensures { IfOk result (IsStaged config.now script.now) }
+    {
+        let size = size_of(config, script);
+        let Opening {
+            session,
+            bank,
+            hands,
+            targets,
+            mut watches,
+        } = Session::open(rt, alloc, config, &size)?;
+        let lists = lists_of(alloc, script)?;
+        let crew = Crew::new(alloc, hands, &targets, &mut watches, lists)?;
+        Ok(Staged {
+            session,
+            bank,
+            targets,
+            crew,
+        })
     }
-    let dones = run_beside(rt, &mut session, &bank, &targets, crew, script, link, gate)?;
-    Ok(finish(rt, alloc, session, &bank, &targets, dones, link)?)
+
+    /// Runs the script, and closes the session with a closing tick and its pump.
+    fn run<R: Threads + Wait + Sync, L: Link, G: Gate>(
+        self,
+        rt: &R,
+        alloc: Global,
+        script: &Script,
+        link: &mut L,
+        gate: &G,
+    ) -> Result<Closed, NoMemory>
+        requires open { IsSome (L.opened_with link.old) }
+        requires script { IsScript (config_of self) script.now }
+        requires staged { IsStaged (config_of self) script.now self }
+        requires begun { HasConducted (config_of self) script.now []
+            (L.told link.old) self.session }
+        ensures completes { IfOk result
+            (IsCompleted (config_of self.entry) script.now (L.told link.new)) }
+        ensures link { KeepsLink L.told L.patience L.opened_with L.faults L.made L.openings
+            (ticks_in script.now.lines + 1) link.old link.new }
+    {
+        let Staged {
+            mut session,
+            bank,
+            targets,
+            crew,
+        } = self;
+        let dones = run_beside(rt, &mut session, &bank, &targets, crew, script, link, gate)?;
+        finish(rt, alloc, session, &bank, &targets, dones, link)
+    }
 }
 
 /// Runs the crew, and beside it the lines that aren't its threads'.
