@@ -12,11 +12,11 @@ use crate::text::lanes_text;
 use lane_groups::{lanes_of, run_lanes, turns_are_ticks_of_a_session};
 use ps_config::Config;
 use ps_script::Script;
-use script_player::PlayEnd;
+use script_player::{PlayEnd, open_link};
 use std::alloc::Global;
 use std::sync::Wait;
 use std::thread::Threads;
-use ua_base::{Gate, Link, Opened};
+use ua_base::{Gate, Link};
 
 /// Applies the writes of a script that lanes take, opens the link with the configuration's port and the script's fates, runs each
 /// lane on a thread of its own through a queue with `room` places, and tells what they sent. The gate is called before and after
@@ -43,11 +43,7 @@ pub fn play_lanes<R: Threads + Wait + Sync, L: Link, G: Gate>(
     turns_are_ticks_of_a_session();
     let turns = turns_of(alloc, config, script)?;
     let lanes = lanes_of(alloc, config, turns.len() as u32)?;
-    match link.open(config.publisher.port, &script.fates(alloc)?) {
-        Opened::Done => {}
-        Opened::Failed => return Err(PlayEnd::Unopened),
-        Opened::Memory => return Err(PlayEnd::Memory),
-    }
+    open_link(alloc, config, script, link)?;
     let ran = run_lanes(rt, alloc, config, &turns, lanes, room, link, gate)?;
     Ok(lanes_text(alloc, config, &ran)?)
 }
