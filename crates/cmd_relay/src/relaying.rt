@@ -136,10 +136,13 @@ impl<'c> Relay<'c> {
         ensures new { IfOk result (IsNewRelay first.now second.now script.now) }
     {
         let size = size_of(first, script);
+        let origins = origins_of(alloc, first)?;
+        let gateway = Gateway::open(alloc, first, second, size.ticks + 1, size.logged)?;
+        let player = Player::open(rt, alloc, first, &size)?;
         Ok(Relay {
-            player: Player::open(rt, alloc, first, &size)?,
-            gateway: Gateway::open(alloc, first, second, size.ticks + 1, size.logged)?,
-            origins: origins_of(alloc, first)?,
+            player,
+            gateway,
+            origins,
         })
     }
 
@@ -166,10 +169,6 @@ impl<'c> Relay<'c> {
         ensures wire { KeepsLink B.told B.patience B.opened_with B.faults B.made B.openings
             session_nothings wire.old wire.new }
     {
-        histories_are_the_models();
-        a_closed_session_tells_the_headline();
-        passes_show_what_is_collected();
-        the_lines_of_a_gateway_tell_stores();
         self.play(rt, alloc, &accepted.script, lab, wire)?;
         self.end(rt, lab, wire)?;
         let Relay {
@@ -178,6 +177,10 @@ impl<'c> Relay<'c> {
             ..
         } = self;
         let closed = player.close(alloc)?;
+        histories_are_the_models();
+        a_closed_session_tells_the_headline();
+        passes_show_what_is_collected();
+        the_lines_of_a_gateway_tell_stores();
         readers_are_told_by_their_names(&accepted.first);
         closed_sessions_have_numbers(&closed);
         gateways_have_numbers(&accepted.second, &gateway);

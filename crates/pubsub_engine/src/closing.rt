@@ -78,6 +78,7 @@ fn closed_of(alloc: Global, session: &Session<'_>, dones: &[Done]) -> Result<Clo
     let round = &session.round;
     let sets = session.sets.metas.len() as u8;
     let histories = histories(alloc, &session.samples, sets, dones)?;
+    let watches = watches(alloc, dones)?;
     let groups = group_ends(alloc, config, &round.tree, &round.publisher)?;
     let writers = writer_ends(alloc, config, &round.tree, &round.publisher)?;
     let read_groups = read_group_ends(alloc, config, &round.tree, &round.subscriber)?;
@@ -89,7 +90,6 @@ fn closed_of(alloc: Global, session: &Session<'_>, dones: &[Done]) -> Result<Clo
         &round.subscriber,
         session.left.tells_versions(),
     )?;
-    let watches = watches(alloc, dones)?;
     Ok(Closed {
         histories: Parts::new(histories),
         groups: Parts::new(groups),

@@ -182,8 +182,8 @@ fn new_session<'c>(
 {
     let turns = size.ticks + 1;
     let samples = Samples::new(alloc, passes, sets.metas.len())?;
-    let round = Round::open(alloc, config, turns, size.logged)?;
     let stores = Stores::new(alloc, keeper, sets_read(config).len())?;
+    let round = Round::open(alloc, config, turns, size.logged)?;
     let left = Left {
         ticks: turns,
         pumps: 0,

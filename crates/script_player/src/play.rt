@@ -68,12 +68,13 @@ pub fn play_script<R: Wait, L: Link>(
         (opening_of config.now script.now) (IsOk result) (result ≡ Err PlayEnd.Unopened)
         link.old link.new }
 {
-    histories_are_the_models();
-    a_closed_session_tells_the_headline();
     let size = size_of(config, script);
     let player = Player::open(rt, alloc, config, &size)?;
     open_link(alloc, config, script, link)?;
-    Ok(player.play_out(rt, alloc, script, link)?)
+    let closed = player.play_out(rt, alloc, script, link)?;
+    histories_are_the_models();
+    a_closed_session_tells_the_headline();
+    Ok(closed)
 }
 
 /// Opens a link with the configuration's port and the script's fates, or says why it isn't open.

@@ -53,12 +53,13 @@ pub fn run_script<R: Threads + Wait + Sync, L: Link, G: Gate>(
         (opening_of config.now script.now) (IsOk result) (result ≡ Err PlayEnd.Unopened)
         link.old link.new }
 {
+    let staged = Staged::new(rt, alloc, config, script)?;
+    open_link(alloc, config, script, link)?;
+    let closed = staged.run(rt, alloc, script, link, gate)?;
     histories_are_the_models();
     closed_histories_are_legal();
     a_closed_session_tells_the_headline();
-    let staged = Staged::new(rt, alloc, config, script)?;
-    open_link(alloc, config, script, link)?;
-    Ok(staged.run(rt, alloc, script, link, gate)?)
+    Ok(closed)
 }
 
 /// A session before its first step, its cells, and the crew that writes and watches them.

@@ -45,10 +45,10 @@ returns-clause-played g c =
     let o = c.in_ok-player.ensures in
     let player : Player = c.in_ok-player.player in
     let plan : plan_of player.session ≡ plan_by config script = o.plan ∙ ap (λ (full : List MetaData). record { config = config; full = full }) c.size_of-size.ensures.full in
-    let out : IsPlayedOut config script (g.L.Link.told c.play_out.new.link) c.in_ok-play_out.field-0 =
-    subst (λ (k : Config). IsPlayedOut k script (g.L.Link.told c.play_out.new.link) c.in_ok-play_out.field-0) (ap (λ (q : Plan). q.config) plan) c.in_ok-play_out.ensures.closed in
+    let out : IsPlayedOut config script (g.L.Link.told c.play_out.new.link) c.in_ok-closed.closed =
+    subst (λ (k : Config). IsPlayedOut k script (g.L.Link.told c.play_out.new.link) c.in_ok-closed.closed) (ap (λ (q : Plan). q.config) plan) c.in_ok-closed.ensures.closed in
     is-play config script c.requires.script (subst IsPlan plan (o.is_plan c.requires.types)) out.told (g.L.Link.told c.play_out.new.link) out.player out.is out.played
-    c.in_ok-play_out.field-0 out.closes c.histories_are_the_models.ensures.rows c.a_closed_session_tells_the_headline.ensures
+    c.in_ok-closed.closed out.closes c.histories_are_the_models.ensures.rows c.a_closed_session_tells_the_headline.ensures
 
 pub returns-clause-closed : goal.returns-clause-closed
 returns-clause-closed g c =
@@ -57,10 +57,10 @@ returns-clause-closed g c =
     let o = c.in_ok-player.ensures in
     let player : Player = c.in_ok-player.player in
     let plan : plan_of player.session ≡ plan_by config script = o.plan ∙ ap (λ (full : List MetaData). record { config = config; full = full }) c.size_of-size.ensures.full in
-    let out : IsPlayedOut config script (g.L.Link.told c.play_out.new.link) c.in_ok-play_out.field-0 =
-    subst (λ (k : Config). IsPlayedOut k script (g.L.Link.told c.play_out.new.link) c.in_ok-play_out.field-0) (ap (λ (q : Plan). q.config) plan) c.in_ok-play_out.ensures.closed in
+    let out : IsPlayedOut config script (g.L.Link.told c.play_out.new.link) c.in_ok-closed.closed =
+    subst (λ (k : Config). IsPlayedOut k script (g.L.Link.told c.play_out.new.link) c.in_ok-closed.closed) (ap (λ (q : Plan). q.config) plan) c.in_ok-closed.ensures.closed in
     is-closed-of config script c.requires.script (subst IsPlan plan (o.is_plan c.requires.types)) out.told (g.L.Link.told c.play_out.new.link) out.player out.is out.played
-    c.in_ok-play_out.field-0 out.closes c.histories_are_the_models.ensures.rows c.a_closed_session_tells_the_headline.ensures
+    c.in_ok-closed.closed out.closes c.histories_are_the_models.ensures.rows c.a_closed_session_tells_the_headline.ensures
 
 -- memory ran out before the link was opened
 pub returns-in_err-player-clause-over : goal.returns-in_err-player-clause-over
@@ -75,12 +75,12 @@ returns-in_err-open_link-clause-over g c =
     c.from_residual-in_err-open_link.result c.in_err-open_link.field-0.0 c.args.link.now c.open_link.new.link c.from_residual-in_err-open_link.ensures.1 c.in_err-open_link.ensures.refused
 
 -- it was opened, and all that was done over it then kept it
-pub returns-in_err-play_out-clause-over : goal.returns-in_err-play_out-clause-over
-returns-in_err-play_out-clause-over g c =
+pub returns-in_err-closed-clause-over : goal.returns-in_err-closed-clause-over
+returns-in_err-closed-clause-over g c =
     let config : Config = c.args.config.now in
     let script : Script = c.args.script.now in
     performs-so g.L.Link.told g.L.Link.patience g.L.Link.opened_with g.L.Link.faults g.L.Link.made g.L.Link.openings (opening_of config script) _ _ (ticks_in script.lines + 1) c.args.link.now c.open_link.new.link c.play_out.new.link
-    (few-nothings config script c.requires.script) (for-memory c.from_residual-in_err-play_out.result c.from_residual-in_err-play_out.ensures.1).1 c.in_ok-open_link.ensures.opens c.play_out.ensures.link
+    (few-nothings config script c.requires.script) (for-memory c.from_residual-in_err-closed.result c.from_residual-in_err-closed.ensures.1).1 c.in_ok-open_link.ensures.opens c.play_out.ensures.link
 
 pub returns-clause-over : goal.returns-clause-over
 returns-clause-over g c =

@@ -34,13 +34,13 @@ run-requires-clause-begun g c =
     (c.in_ok-staged.ensures.begins told (opened-empty (g.L.Link.told c.args.link.now) told c.in_ok-open_link.ensures.opens.empty))
 
 -- it ran as the script's lines say, and was closed
-completed : (g : Over) (c : goal.In_ok-run g) → Completes c.args.config.now c.args.script.now (g.L.Link.told c.run.new.link) c.in_ok-run.field-0
+completed : (g : Over) (c : goal.In_ok-closed g) → Completes c.args.config.now c.args.script.now (g.L.Link.told c.run.new.link) c.in_ok-closed.closed
 completed g c =
     let config : Config = c.args.config.now in
     let script : Script = c.args.script.now in
     let after : _ = g.L.Link.told c.run.new.link in
-    completes-as config script c.requires.script after c.in_ok-run.field-0
-    (subst (λ (k : Config). IsCompleted k script after c.in_ok-run.field-0) (sym (same-config config script c.in_ok-staged.staged c.in_ok-staged.ensures)) c.in_ok-run.ensures.completes)
+    completes-as config script c.requires.script after c.in_ok-closed.closed
+    (subst (λ (k : Config). IsCompleted k script after c.in_ok-closed.closed) (sym (same-config config script c.in_ok-staged.staged c.in_ok-staged.ensures)) c.in_ok-closed.ensures.completes)
     (record { legal = c.closed_histories_are_legal.ensures.legal; history = c.closed_histories_are_legal.ensures.history })
 
 pub returns-clause-ran : goal.returns-clause-ran
@@ -62,12 +62,12 @@ returns-in_err-open_link-clause-over g c =
     c.from_residual-in_err-open_link.result c.in_err-open_link.field-0.0 c.args.link.now c.open_link.new.link c.from_residual-in_err-open_link.ensures.1 c.in_err-open_link.ensures.refused
 
 -- it was opened, and all that was done over it then kept it
-pub returns-in_err-run-clause-over : goal.returns-in_err-run-clause-over
-returns-in_err-run-clause-over g c =
+pub returns-in_err-closed-clause-over : goal.returns-in_err-closed-clause-over
+returns-in_err-closed-clause-over g c =
     let config : Config = c.args.config.now in
     let script : Script = c.args.script.now in
     performs-so g.L.Link.told g.L.Link.patience g.L.Link.opened_with g.L.Link.faults g.L.Link.made g.L.Link.openings (opening_of config script) _ _ (ticks_in script.lines + 1) c.args.link.now c.open_link.new.link c.run.new.link
-    (few-nothings config script c.requires.script) (for-memory c.from_residual-in_err-run.result c.from_residual-in_err-run.ensures.1).1 c.in_ok-open_link.ensures.opens c.run.ensures.link
+    (few-nothings config script c.requires.script) (for-memory c.from_residual-in_err-closed.result c.from_residual-in_err-closed.ensures.1).1 c.in_ok-open_link.ensures.opens c.run.ensures.link
 
 pub returns-clause-over : goal.returns-clause-over
 returns-clause-over g c =
