@@ -164,7 +164,8 @@ pub record RelayEnds (status : Status) (names : Names) (old new : Outside) (lab 
   -- what the definitions refuse is refused, and nothing else
   pub config_refused : (first_bytes second_bytes : List ℕ) → IsTold (old.file names.first) first_bytes → IsTold (old.file names.second) second_bytes
       → ¬ IsUnread status → ¬ IsOutOfMemory status → IsConfigRefused status ↔ AreRefused first_bytes second_bytes
-  pub script_refused : (reader : ValueReader) (first second : Config) (bytes : List ℕ) → AreToldConfigs old.file names first second → IsTold (old.file names.script) bytes
+  pub script_refused : (reader : ValueReader) (first second : Config) (bytes : List ℕ) → AreToldConfigs old.file names first second
+      → IsTold (old.file names.script) bytes
       → ¬ IsUnread status → ¬ IsOutOfMemory status → IsScriptRefused status ↔ IsErr (script_in reader first bytes true)
   -- of a file that is too long this is told where those before it are accepted, and of no other
   pub first_long : (bytes : List ℕ) → old.file names.first ≡ Some (Some bytes)

@@ -24,14 +24,16 @@ use Rattle.cmd_relay.specs.Texts.{gateway_line, stored_text}
 
 -- The line of a writer has place and store of each of its data frames, and the stores don't fall. Each is told at its own round, and up to each turn with a data frame the
 -- writer's frames publish the row of the turn's store. `rows` are those of the versions of the first history.
-pub record TellsStores (p : Plan) (second : Config) (sources : List Source) (relay : List RelayStep) (rows : ℕ → ℕ → List DataValue) (g w : ℕ) (text : List ℕ) : Type 0 where
+pub record TellsStores (p : Plan) (second : Config) (sources : List Source) (relay : List RelayStep) (rows : ℕ → ℕ → List DataValue) (g w : ℕ)
+    (text : List ℕ) : Type 0 where
   pub text_is : text ≡ gateway_line (writer_at (group_at second g) w).name (log_at (plan_again second) g w (seconds relay))
   pub never_fall : IsNonDecreasingBy (λ (entry : ℕ × ℕ). entry.1) (log_at (plan_again second) g w (seconds relay))
   pub each : (place store : ℕ) → Contains (log_at (plan_again second) g w (seconds relay)) (place, store)
       → TellsStore p second sources relay rows g w place store
   pub publish : (later before : List WriterDeed) (turn : WriterTurn) → writer_deeds (plan_again second) g w (seconds relay) ≡ later ++ HadTurn turn ∷ before
       → is_data (answered_turn (settings_at (group_at second g) w) before turn) ≡ true
-      → PublishesVersion (plan_again second) (seconds relay) (settings_at (group_at second g) w) (set_of second g w) (stored_rows p.config second sources (firsts relay)) before turn
+      → PublishesVersion (plan_again second) (seconds relay) (settings_at (group_at second g) w) (set_of second g w)
+      (stored_rows p.config second sources (firsts relay)) before turn
 
 abbrev pub seat_in : Config → ℕ → ℕ → Seat
 seat_in second r i = seat_at (setting_of second r).seats i
@@ -43,7 +45,8 @@ line_of name rest = codes "relayed " ++ name ++ rest ++ feed
 -- The line of a reader that holds a row has the number of this, the store that its writer's log has there, the version that is told of the store, and the store's row. The
 -- version is the one that the store came with; where the source's read group takes nothing but what was sent it is known, and that of the row in the
 -- first history.
-pub record TellsHeld (p : Plan) (second : Config) (sources : List Source) (relay : List RelayStep) (rows : ℕ → ℕ → List DataValue) (r i g w : ℕ) (row : List DataValue) (text : List ℕ) : Type 0 where
+pub record TellsHeld (p : Plan) (second : Config) (sources : List Source) (relay : List RelayStep) (rows : ℕ → ℕ → List DataValue) (r i g w : ℕ)
+    (row : List DataValue) (text : List ℕ) : Type 0 where
   pub holds : HoldsStore p second sources relay rows r i g w row
   pub text_is : text ≡ line_of (seat_in second r i).part.name
       (stored_text (reader_at second r i (seconds relay)).kept.number (Some holds.relayed.store) (version_told p (source_of second sources g w) relay holds.relayed.store)
@@ -74,7 +77,8 @@ pub record HasLine (text : List ℕ) (Tells : List ℕ → Type 0) : Type 0 wher
 -- The text of a relay has a line of each writer, and one of each reader that is matched within the second configuration and goes by numbers, where its read group takes
 -- nothing but what was sent. From one moment of the relay to a later one the store and the version that such a reader holds don't fall, where the source's read group
 -- takes nothing else too, and neither the reader nor its source was cut.
-pub record TellsRelay (p : Plan) (second : Config) (sources : List Source) (relay : List RelayStep) (rows : ℕ → ℕ → List DataValue) (text : List ℕ) : Type 0 where
+pub record TellsRelay (p : Plan) (second : Config) (sources : List Source) (relay : List RelayStep) (rows : ℕ → ℕ → List DataValue)
+    (text : List ℕ) : Type 0 where
   pub writers : (g w : ℕ) → w < length (group_at second g).writer → HasLine text (TellsStores p second sources relay rows g w)
   pub readers : (r i g w : ℕ) → IsNumbered second r i g w → IsHonestAgain second r relay
       → HasLine text (TellsReader p second sources relay rows r i g w)

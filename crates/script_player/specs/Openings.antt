@@ -15,7 +15,8 @@ pub record OpensOnce {L : Type 0} (made : L → Making) (openings : L → ℕ) (
 
 -- It is opened so where the session was performed, and else so or not at all, once. One that can't be opened stays as it was, its count of
 -- faults aside, which rose. It tells on over what a session's pumps are answered.
-pub record PerformsOver {L : Type 0} (told : L → Option LinkState) (patience : L → ℕ) (opened_with : L → Option Opening) (faults : L → ℕ) (made : L → Making) (openings : L → ℕ) (opening : Opening) (performed unopened : Type 0) (old new : L) : Type 0 where
+pub record PerformsOver {L : Type 0} (told : L → Option LinkState) (patience : L → ℕ) (opened_with : L → Option Opening) (faults : L → ℕ)
+    (made : L → Making) (openings : L → ℕ) (opening : Opening) (performed unopened : Type 0) (old new : L) : Type 0 where
   pub opened : performed → opened_with new ≡ Some opening
   pub opens : opened_with new ≢ opened_with old → opened_with new ≡ Some opening
   pub once : OpensOnce made openings performed old new
@@ -25,7 +26,8 @@ pub record PerformsOver {L : Type 0} (told : L → Option LinkState) (patience :
   pub lasts : TellsOn told patience session_nothings old new
 
 -- the link was opened so, once, and nothing is in its journal
-pub record OpensSo {L : Type 0} (told : L → Option LinkState) (patience : L → ℕ) (opened_with : L → Option Opening) (faults : L → ℕ) (made : L → Making) (openings : L → ℕ) (opening : Opening) (old new : L) : Type 0 where
+pub record OpensSo {L : Type 0} (told : L → Option LinkState) (patience : L → ℕ) (opened_with : L → Option Opening) (faults : L → ℕ)
+    (made : L → Making) (openings : L → ℕ) (opening : Opening) (old new : L) : Type 0 where
   pub opened : opened_with new ≡ Some opening
   pub empty : Tells (told old) (told new) (Opens Done)
   pub once : openings new ≡ counted_if true (openings old)
@@ -34,6 +36,7 @@ pub record OpensSo {L : Type 0} (told : L → Option LinkState) (patience : L �
   pub lasts : TellsOn told patience 0 old new
 
 -- it wasn't, and so nothing is performed over it
-abbrev pub RefusesSo : {L : Type 0} → (L → Option LinkState) → (L → ℕ) → (L → Option Opening) → (L → ℕ) → (L → Making) → (L → ℕ) → Opening → Type 0 → L → L → Type 0
+abbrev pub RefusesSo : {L : Type 0} → (L → Option LinkState) → (L → ℕ) → (L → Option Opening) → (L → ℕ) → (L → Making) → (L → ℕ) → Opening → Type 0
+    → L → L → Type 0
 RefusesSo told patience opened_with faults made openings opening unopened old new =
     PerformsOver told patience opened_with faults made openings opening ⊥ unopened old new

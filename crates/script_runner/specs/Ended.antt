@@ -29,8 +29,8 @@ pub record AreDutiesOf (config : Config) (script : Script) (bank targets : List 
   pub unseen : AreUnseen bank duties
 
 -- the crew has run them; the session has lived through these steps, and was finished with what each thread left
-pub record HasEnded (config : Config) (script : Script) (bank : List CellData) (targets : TargetsData) (duties : List Duty) (dones : List Done) (session : Session)
-    (steps : List Step) (told after : Option LinkState) (closed : Closed) : Type 0 where
+pub record HasEnded (config : Config) (script : Script) (bank : List CellData) (targets : TargetsData) (duties : List Duty) (dones : List Done)
+    (session : Session) (steps : List Step) (told after : Option LinkState) (closed : Closed) : Type 0 where
   pub script_is : IsScript config script
   pub duties_are : AreDutiesOf config script bank targets.cells duties
   pub done : AreDone bank targets.cells duties dones

@@ -63,4 +63,5 @@ pub record Finishes (bank targets : List CellData) (old : Session) (dones : List
   pub histories : AreInOrder dones → (set : ℕ) (threads : List ℕ) → set < length (passes_of new) → IsAuthored set dones threads
       → length threads ≡ length (pass_at (passes_of new) set).seen → HasThreads closed.histories set threads
   pub watches : AreInOrder dones → closed.watches ≡ watches_of dones
-  pub closed_of : (steps : List Step) → Stands (plan_of new) steps new → AreLooksAt (readers (plan_of new).config) dones → IsClosedOf (plan_of new).config closed
+  pub closed_of : (steps : List Step) → Stands (plan_of new) steps new → AreLooksAt (readers (plan_of new).config) dones
+      → IsClosedOf (plan_of new).config closed

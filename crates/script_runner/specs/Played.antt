@@ -24,7 +24,8 @@ pub record WritesLegally (config : Config) (script : Script) : Type 0 where
   pub rows : row_written script ≡ row_made script (logs_written script)
 
 -- the run with the same steps, whose histories are the writes in the order of the lines
-pub record IsRunInOrder (config : Config) (script : Script) (told : Option LinkState) (closed : Closed) (play : IsPlayOf config script told closed) : Type 0 where
+pub record IsRunInOrder (config : Config) (script : Script) (told : Option LinkState) (closed : Closed)
+    (play : IsPlayOf config script told closed) : Type 0 where
   pub run : IsRunOf config script told closed
   pub steps : run.steps ≡ play.steps
   pub logs : (set : ℕ) → run.logs set ≡ logs_written script set

@@ -29,8 +29,8 @@ abbrev pub config_of : Staged → Config
 config_of staged = (plan_of staged.session).config
 
 -- what opening a session for a script, and its lists, say
-pub record IsOpened (config : Config) (script : Script) (session : Session) (bank : List CellData) (targets : TargetsData) (hands : List (List Known)) (watches : List Known)
-    (lists : List (Vec Item Global)) : Type 0 where
+pub record IsOpened (config : Config) (script : Script) (session : Session) (bank : List CellData) (targets : TargetsData)
+    (hands : List (List Known)) (watches : List Known) (lists : List (Vec Item Global)) : Type 0 where
   pub plan : plan_of session ≡ plan_by config script
   pub bank_is : IsBankOf session bank
   pub cells : All IsCell bank
