@@ -130,7 +130,12 @@ fn fixed_members(
 {
     let mut members = Map::new(alloc);
     put(&mut members, alloc, "DataSetWriterId", Json::from(writer))?;
-    put(&mut members, alloc, "MessageType", Json::try_from_str(alloc, word)?)?;
+    put(
+        &mut members,
+        alloc,
+        "MessageType",
+        Json::try_from_str(alloc, word)?,
+    )?;
     put(&mut members, alloc, "SequenceNumber", Json::from(number))?;
     Ok(members)
 }
