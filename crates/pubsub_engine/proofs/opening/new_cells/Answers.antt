@@ -6,6 +6,9 @@ use Rattle.target_cells.specs.Keeping.{metas_of}
 use Rattle.pubsub_engine.proofs.ReadSets.{sets-there}
 use Rattle.pubsub_engine.proofs.opening.new_cells.Goals as goal
 
+pub new-requires-clause-count : goal.new-requires-clause-count
+new-requires-clause-count g c = ap length c.as_slice.ensures.value ∙ c.requires.count
+
 pub new-requires-2-clause-readers : goal.new-requires-2-clause-readers
 new-requires-2-clause-readers g c =
     let config = c.args.config.now in
