@@ -37,16 +37,14 @@ use Rattle.reader_group.specs.Numbered.{HasItsNumber, HaveNumbers, HaveTheirNumb
 use Rattle.reader_group.specs.Plain.{Event, PlainGroup, Setting, member_at, opening, step}
 use Rattle.reader_group.specs.Settings.{group_at as read_group_at, no_group as no_read_group, seat_in, setting_of}
 use Rattle.session_model.specs.Steps.{Plan, Step, Enable, Disable, Append, Tick, Pump}
-use Rattle.session_model.specs.Deeds.{deeds, group_indexes, logs_cut}
-use Rattle.session_model.specs.Events.{events, read_group_indexes}
+use Rattle.session_model.specs.Deeds.{deeds, logs_cut}
+use Rattle.session_model.specs.Events.{events}
 use Rattle.session_model.specs.Keeping.{AreStepsOf}
 use Rattle.session_model.specs.Lives.{Account, Lived, Renewed, Stepped, account_in, account_of, befalls, log_in, steps_in}
 use Rattle.session_model.specs.Readings.{Reading, goes_on, read_on, reads_with, rekeyed_if, setting_in}
 use Rattle.session_model.specs.Closing.{IsClosedAfter, IsClosedTelling, IsReaderEnd, IsWriterEndWith, MemberPlace, TellsEndsIf, TellsNumberAlone, TellsReaderAlone, reader_places, writer_places}
-use Rattle.session_parts.specs.Showing.{link_of}
-use Rattle.session_parts.specs.Standing.{AreReceivesIn, AreSendsIn}
 use Rattle.pubsub_engine.specs.declared.session.Session.{Session}
-use Rattle.pubsub_engine.specs.Authored.{AreHistories, AreInOrder, AreLooksAt, watches_in_bytes}
+use Rattle.pubsub_engine.specs.Authored.{AreInOrder, AreLooksAt}
 use Rattle.pubsub_engine.specs.Holding.{IsSession, KeepsWholeLogs, logged_of, plan_of, tells_versions, ticks_of}
 use Rattle.pubsub_engine.specs.Standing.{Stands}
 use Rattle.pubsub_engine.specs.Living.{StandsAs, StandsIn}

@@ -95,13 +95,13 @@ pub record IsFresh (appends : List Append) (turns logged : ℕ) (s : Session) : 
   pub stores : AreFreshStores (length (readers s.config.now)) s.stores
 
 -- a fresh one of the configuration with these passes, whose sample is of them
-pub record IsNewSession (config : Config) (size : Size) (passes keeper : List Known) (s : Session) : Type 0 where
+pub record IsNewSession (config : Config) (size : Size) (seen kept : List Known) (s : Session) : Type 0 where
   pub fresh : IsFresh size.appends.items (size.ticks + 1) size.logged s
   pub plan : plan_of s ≡ record { config = config; full = full_of config.dataset size.appends.items }
   pub appends : appends_left s ≡ map (λ append. append.set) size.appends.items
-  pub passes : passes_of s ≡ passes
+  pub passes : passes_of s ≡ seen
   pub sampled : sampled_by s ≡ samples_of (passes_of s)
-  pub keeper : keeper_of s ≡ keeper
+  pub keeper : keeper_of s ≡ kept
 
 -- ---- and what it is opened with
 

@@ -1,19 +1,16 @@
 -- What a new session and its crew begin with, and what the crew leaves for its end.
-use Rattle.std.proofs.Common.{◌≡◌, ℕ, ◌<◌, List, length, map, get_or, sym, ap, ◌∙◌, arith, Vec}
-use Rattle.std.specs.Prelude.{All}
+use Rattle.std.proofs.Common.{ℕ, List, length, map, get_or, sym, ap, ◌∙◌, arith, Vec}
 use Rattle.std.specs.declared.alloc.Global.{Global}
 use Rattle.std.proofs.lemmas.List.{length-map}
 use Rattle.dataset_meta.specs.Metas.{no_meta}
 use Rattle.version_cell.proofs.Each.{shared_own}
-use Rattle.version_cell.specs.Cells.{CellData, IsCell}
+use Rattle.version_cell.specs.Cells.{CellData}
 use Rattle.version_cell.specs.Known.{Known}
 use Rattle.version_cell.specs.Passes.{shared_by}
-use Rattle.version_cell.specs.Sets.{ArePassesOf}
-use Rattle.cell_bank.specs.Hands.{AreHands}
 use Rattle.target_cells.specs.Keeping.{TargetsData}
 use Rattle.app_threads.specs.declared.done.Done.{Done}
 use Rattle.app_threads.specs.declared.item.Item.{Item}
-use Rattle.app_threads.specs.Crews.{AreDone, given_to, list_of}
+use Rattle.app_threads.specs.Crews.{AreDone, given_to}
 use Rattle.app_threads.specs.Duties.{Duty}
 use Rattle.ps_config.specs.declared.parts.Config.{Config}
 use Rattle.ps_config.specs.declared.parts.ReaderPart.{ReaderPart}
@@ -22,9 +19,7 @@ use Rattle.ps_script.specs.declared.script.Script.{Script}
 use Rattle.ps_script.specs.Sound.{IsScript}
 use Rattle.session_model.specs.Steps.{Plan}
 use Rattle.pubsub_engine.specs.declared.session.Session.{Session}
-use Rattle.pubsub_engine.specs.Holding.{AreTargetsOf, IsBankOf, plan_of}
-use Rattle.script_player.specs.Plays.{plan_by}
-use Rattle.script_player.specs.Sizes.{quotas_by}
+use Rattle.pubsub_engine.specs.Holding.{plan_of}
 use Rattle.script_runner.specs.Ended.{AreDutiesOf}
 use Rattle.script_runner.specs.Finishing.{AreOwn}
 use Rattle.script_runner.specs.Staged.{IsOpened}

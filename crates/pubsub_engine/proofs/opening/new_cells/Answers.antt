@@ -1,7 +1,5 @@
-use Rattle.std.proofs.Common.{ℕ, ◌<◌, List, length, All, ap, sym, subst, ◌∙◌, map}
+use Rattle.std.proofs.Common.{ℕ, ◌<◌, List, length, All, ap, sym, subst, ◌∙◌}
 use Rattle.dataset_meta.specs.Metas.{MetaData}
-use Rattle.ps_config.specs.declared.parts.ReaderPart.{ReaderPart}
-use Rattle.ps_config.specs.Sound.{readers}
 use Rattle.target_cells.specs.Keeping.{metas_of}
 use Rattle.pubsub_engine.proofs.ReadSets.{sets-there}
 use Rattle.pubsub_engine.proofs.opening.new_cells.Goals as goal

@@ -1,7 +1,4 @@
-use Rattle.std.proofs.Common.{sym, ap, ◌∙◌, subst, List, ℕ, length, Some, None}
-use Rattle.std.proofs.lemmas.List.{length-map}
-use Rattle.dataset_meta.specs.Metas.{MetaData}
-use Rattle.version_cell.specs.Known.{Known}
+use Rattle.std.proofs.Common.{sym, ap, ◌∙◌, length}
 use Rattle.pubsub_engine.specs.Opened.{IsNewSession}
 use Rattle.pubsub_engine.proofs.OpenParts.{bank-of, full-count, new-bank, new-targets, targets-of}
 use Rattle.pubsub_engine.proofs.opening.opening_with.Goals as goal

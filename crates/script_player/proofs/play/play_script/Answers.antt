@@ -1,4 +1,4 @@
-use Rattle.std.proofs.Common.{◌≡◌, ℕ, ◌+◌, List, [], length, map, reverse, sym, ap, ◌∙◌, subst, arith}
+use Rattle.std.proofs.Common.{◌≡◌, ℕ, ◌+◌, List, [], length, map, sym, ap, ◌∙◌, subst}
 use Rattle.std.specs.List.{range_with_len}
 use Rattle.std.proofs.lemmas.List.{length-map}
 use Rattle.std.proofs.lemmas.List.FromFn.{length-range_with_len}
@@ -16,7 +16,6 @@ use Rattle.script_player.proofs.Finished.{is-closed-of, is-play}
 use Rattle.script_player.proofs.Newly.{begins, opened-empty}
 use Rattle.script_player.proofs.Openings.{for-memory, performed-opened, performs-so, performs-unused, refused-as}
 use Rattle.script_player.proofs.Ticks.{few-nothings}
-use Rattle.script_player.proofs.play.play_script.Given.{Over}
 use Rattle.script_player.proofs.play.play_script.Goals as goal
 
 pub open-requires-clause-sets : goal.open-requires-clause-sets
