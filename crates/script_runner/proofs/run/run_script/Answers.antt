@@ -11,8 +11,7 @@ use Rattle.script_player.proofs.Ticks.{few-nothings}
 use Rattle.script_runner.specs.declared.run.Staged.{Staged}
 use Rattle.script_runner.specs.Conducting.{HasConducted}
 use Rattle.script_runner.specs.Staged.{IsCompleted, IsStaged, config_of}
-use Rattle.script_runner.proofs.Completed.{Completes, completes-as}
-use Rattle.script_runner.proofs.run.run_script.Given.{Over}
+use Rattle.script_runner.proofs.Completed.{completes-as}
 use Rattle.script_runner.proofs.run.run_script.Goals as goal
 
 -- the session is of the configuration
@@ -34,20 +33,19 @@ run-requires-clause-begun g c =
     (c.in_ok-staged.ensures.begins told (opened-empty (g.L.Link.told c.args.link.now) told c.in_ok-open_link.ensures.opens.empty))
 
 -- it ran as the script's lines say, and was closed
-completed : (g : Over) (c : goal.In_ok-closed g) → Completes c.args.config.now c.args.script.now (g.L.Link.told c.run.new.link) c.in_ok-closed.closed
-completed g c =
-    let config : Config = c.args.config.now in
-    let script : Script = c.args.script.now in
-    let after : _ = g.L.Link.told c.run.new.link in
-    completes-as config script c.requires.script after c.in_ok-closed.closed
-    (subst (λ (k : Config). IsCompleted k script after c.in_ok-closed.closed) (sym (same-config config script c.in_ok-staged.staged c.in_ok-staged.ensures)) c.in_ok-closed.ensures.completes)
-    (record { legal = c.closed_histories_are_legal.ensures.legal; history = c.closed_histories_are_legal.ensures.history })
-
 pub returns-clause-ran : goal.returns-clause-ran
-returns-clause-ran g c = (completed g c).ran c.histories_are_the_models.ensures.rows c.a_closed_session_tells_the_headline.ensures
+returns-clause-ran g c =
+    (completes-as c.args.config.now c.args.script.now c.requires.script (g.L.Link.told c.run.new.link) c.in_ok-closed.closed
+    (subst (λ (k : Config). IsCompleted k c.args.script.now (g.L.Link.told c.run.new.link) c.in_ok-closed.closed)
+    (sym (same-config c.args.config.now c.args.script.now c.in_ok-staged.staged c.in_ok-staged.ensures)) c.in_ok-closed.ensures.completes)
+    (record { legal = c.closed_histories_are_legal.ensures.legal; history = c.closed_histories_are_legal.ensures.history })).ran c.histories_are_the_models.ensures.rows c.a_closed_session_tells_the_headline.ensures
 
 pub returns-clause-closed : goal.returns-clause-closed
-returns-clause-closed g c = (completed g c).closed_of
+returns-clause-closed g c =
+    (completes-as c.args.config.now c.args.script.now c.requires.script (g.L.Link.told c.run.new.link) c.in_ok-closed.closed
+    (subst (λ (k : Config). IsCompleted k c.args.script.now (g.L.Link.told c.run.new.link) c.in_ok-closed.closed)
+    (sym (same-config c.args.config.now c.args.script.now c.in_ok-staged.staged c.in_ok-staged.ensures)) c.in_ok-closed.ensures.completes)
+    (record { legal = c.closed_histories_are_legal.ensures.legal; history = c.closed_histories_are_legal.ensures.history })).closed_of
 
 -- memory ran out before the link was opened
 pub returns-in_err-staged-clause-over : goal.returns-in_err-staged-clause-over

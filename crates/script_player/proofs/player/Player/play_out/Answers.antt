@@ -1,11 +1,15 @@
 use Rattle.std.proofs.Common.{◌+◌, arith}
 use Rattle.std.proofs.lemmas.Result.{IfOk-weaker}
-use Rattle.ua_base.proofs.Links.{KeepsLink-more, KeepsLink-then}
+use Rattle.ua_base.proofs.Links.{KeepsLink-more, KeepsLink-then, stays_open}
 use Rattle.ps_script.specs.Sessions.{ticks_in}
 use Rattle.script_player.specs.Player.{config_of}
 use Rattle.script_player.proofs.Closing.{closes}
 use Rattle.script_player.proofs.Newly.{may-close}
 use Rattle.script_player.proofs.player.Player.play_out.Goals as goal
+
+pub end-requires-clause-open : goal.end-requires-clause-open
+end-requires-clause-open g c =
+    stays_open g.L.Link.told g.L.Link.patience g.L.Link.opened_with g.L.Link.faults g.L.Link.made g.L.Link.openings (ticks_in c.args.script.now.lines) c.args.link.now c.play.new.link c.play.ensures.link c.requires.open
 
 pub end-requires-clause-may : goal.end-requires-clause-may
 end-requires-clause-may g c =

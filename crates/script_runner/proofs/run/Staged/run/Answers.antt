@@ -1,6 +1,6 @@
 use Rattle.std.proofs.Common.{◌+◌, arith}
 use Rattle.std.proofs.lemmas.Result.{IfOk-weaker}
-use Rattle.ua_base.proofs.Links.{KeepsLink-more, KeepsLink-then}
+use Rattle.ua_base.proofs.Links.{KeepsLink-more, KeepsLink-then, stays_open}
 use Rattle.ps_script.specs.Sessions.{ticks_in}
 use Rattle.script_runner.specs.Staged.{config_of}
 use Rattle.script_runner.proofs.Beginning.{may-close}
@@ -19,6 +19,10 @@ run_beside-requires-clause-targets g c κs within = c.requires.staged.opened.tar
 
 pub run_beside-requires-clause-ready : goal.run_beside-requires-clause-ready
 run_beside-requires-clause-ready g c κs within = crew-ready (config_of c.args.self) c.args.script.now c.requires.script c.args.self c.requires.staged
+
+pub finish-requires-clause-open : goal.finish-requires-clause-open
+finish-requires-clause-open g c =
+    stays_open g.L.Link.told g.L.Link.patience g.L.Link.opened_with g.L.Link.faults g.L.Link.made g.L.Link.openings (ticks_in c.args.script.now.lines) c.args.link.now c.run_beside.new.link c.run_beside.ensures.link c.requires.open
 
 pub finish-requires-clause-own : goal.finish-requires-clause-own
 finish-requires-clause-own g c = are-own c.args.self.bank c.args.self.targets.cells c.args.self.crew c.in_ok-dones.dones.items c.in_ok-dones.ensures.done
