@@ -62,8 +62,10 @@ impl<'c> Player<'c> {
         requires appends { AreAppends config.now config.now.dataset size.now.appends.items }
         ensures player { IfOk result IsPlayer }
         ensures new { IfOk result IsNew }
-        ensures plan { IfOk result (λ player. plan_of player.session
-            ≡ record { config = config.now; full = full_of config.now.dataset size.now.appends.items }) }
+        ensures plan { IfOk result (λ player. plan_of player.session ≡ record {
+          config = config.now;
+          full = full_of config.now.dataset size.now.appends.items;
+        }) }
         ensures is_plan { HasTypes config.now
             → IfOk result (λ player. IsPlan (plan_of player.session)) }
         ensures left { IfOk result
