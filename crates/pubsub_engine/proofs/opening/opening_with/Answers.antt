@@ -8,6 +8,9 @@ new_cells-requires-clause-count g c =
     c.requires.writes.count
     ∙ sym (ap length (c.deref.ensures.value ∙ c.requires.sets.full) ∙ full-count c.args.config.now.dataset c.args.size.now.appends.items)
 
+pub new_cells-requires-clause-writes : goal.new_cells-requires-clause-writes
+new_cells-requires-clause-writes g c = c.requires.writes.small
+
 pub new_session-requires-clause-passes : goal.new_session-requires-clause-passes
 new_session-requires-clause-passes g c =
     let made = c.in_ok-cells.cells in (
