@@ -2,13 +2,12 @@
 use ps_config::ConfigEnd;
 use reader_group::Refusal;
 use std::alloc::{AllocError, AllocFailed};
-use std::error::Error;
 use std::fmt::{self, Display, Formatter, Write};
 use std::io;
 use ua_base::NoMemory;
 
 /// Why a soak ends before its time.
-#[derive(Debug, Drop)]
+#[derive(Drop)]
 pub enum Fault {
     /// The words aren't those that the program takes.
     BadWords,
@@ -59,8 +58,6 @@ impl Display for Fault {
     }
 }
 
-impl Error for Fault {}
-
 impl From<ConfigEnd> for Fault {
     fn from(end: ConfigEnd) -> Fault {
         Fault::Config(end)
@@ -85,7 +82,10 @@ impl<T: Drop> From<AllocFailed<T>> for Fault {
     }
 }
 
-/// The output can't be written.
-pub fn unwritten(_: io::Error) -> Fault {
-    Fault::Unwritten
+/// What became of the output.
+pub fn written(told: io::Result<()>) -> Result<(), Fault> {
+    match told {
+        Ok(()) => Ok(()),
+        Err(_) => Err(Fault::Unwritten),
+    }
 }

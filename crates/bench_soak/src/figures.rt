@@ -1,5 +1,5 @@
 //! What the process uses.
-use crate::fault::{Fault, unwritten};
+use crate::fault::{Fault, written};
 use std::io::Read;
 use std::rt::Files;
 use std::time::{Clock, Instant};
@@ -34,7 +34,7 @@ impl Figures {
         let count = turns.saturating_sub(self.turns).max(1);
         let each = u64::try_from(passed.as_nanos()).unwrap_or(u64::MAX) / count;
         let memory = resident(rt)?;
-        println!(rt; "at turn {turns}: {each} ns a turn, {memory} KiB").map_err(unwritten)?;
+        written(println!(rt; "at turn {turns}: {each} ns a turn, {memory} KiB"))?;
         self.start = Some(now(rt)?);
         self.turns = turns;
         Ok(())

@@ -4,7 +4,7 @@ ghost use denote.Param.Send.{IsSync};
 ghost use Rattle.writer_group.specs.Standing.{IsGood};
 ghost use Rattle.example_publisher.specs.Devices.{AreWorkers, IsBank, IsDevice, IsWorker};
 
-use crate::device::{Device, unwritten};
+use crate::device::{Device, written};
 use crate::filling::{Worker, fill};
 use crate::making::{Plant, plant_of};
 use crate::pace::Pace;
@@ -44,7 +44,7 @@ pub fn publish<R: Files + Print + Clock + Threads + Wait + Sync, L: Link>(
         interval,
     } = plant_of(rt, alloc, config, ticks, name)?;
     let life = device.numbers.life();
-    println!(rt; "life {life}").map_err(unwritten)?;
+    written(println!(rt; "life {life}"))?;
     device.tell(rt, 0)?;
     run_beside(
         rt,

@@ -8,6 +8,7 @@ use crate::configuration::expect_small;
 use crate::device::Device;
 use crate::keys::ring_with;
 use crate::room::room_of;
+use crate::same::same;
 use crate::showing::{Expected, shows};
 use crate::writing::write_next;
 use app_threads::Done;
@@ -68,7 +69,7 @@ pub(crate) fn round<R: Wait + Abort, L: Link>(
     ensures open { IsSome (L.opened_with link.new) }
 {
     let written = write(rt, device, version)?;
-    assert_eq!(rt; written, u64::from(version));
+    same(rt, "written", &written, &u64::from(version));
     tick(rt, device, link)?;
     shows(rt, &device.session, want);
     Ok(())
@@ -118,7 +119,7 @@ pub(crate) fn renew<R: Abort>(
 {
     let ring = ring_with(tokens)?;
     let answer = device.session.renew(0, ring);
-    assert_eq!(rt; answer, is_kept);
+    same(rt, "renewed", &answer, &is_kept);
     shows(rt, &device.session, want);
     Ok(())
 }

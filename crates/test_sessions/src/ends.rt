@@ -1,4 +1,5 @@
 //! What a closed session is to tell.
+use crate::same::same;
 use crate::showing::{Expected, all_came, refusals};
 use ps_report::{Break, Closed, GroupEnd, ReadGroupEnd, State};
 use std::process::Abort;
@@ -12,21 +13,19 @@ pub(crate) fn closes<R: Abort>(rt: &R, closed: &Closed, want: Expected) -> Resul
     let [group] = closed.groups.as_slice() else {
         return Err("another number of groups".into());
     };
-    assert!(rt; *group == GroupEnd { state, sent: 5 });
+    same(rt, "group", group, &GroupEnd { state, sent: 5 });
     logs(rt, closed, &[(0, 1), (1, 2), (2, 3), (3, 4), (4, 4)])?;
     let [read_group] = closed.read_groups.as_slice() else {
         return Err("another number of read groups".into());
     };
     let causes = refusals(1);
-    assert!(rt;
-        *read_group
-            == ReadGroupEnd {
-                state,
-                taken: 4,
-                causes
-            }
-    );
-    assert!(rt; closed.link == all_came(5));
+    let taken = ReadGroupEnd {
+        state,
+        taken: 4,
+        causes,
+    };
+    same(rt, "read group", read_group, &taken);
+    same(rt, "link", &closed.link, &all_came(5));
     let missed = [Break {
         expected: 1,
         got: 2,
@@ -53,14 +52,13 @@ pub(crate) fn holds<R: Abort>(
     let [reader] = closed.readers.as_slice() else {
         return Err("another number of readers".into());
     };
-    assert_eq!(rt; reader.state, State::Operational);
+    same(rt, "state", &reader.state, &State::Operational);
     let Some(held) = &reader.held else {
         return Err("no row".into());
     };
-    assert_eq!(rt;
-        (held.number, held.version, held.row.words[0]),
-        (Some(want.number), want.told(), want.version)
-    );
+    same(rt, "number", &held.number, &Some(want.number));
+    same(rt, "version", &held.version, &want.told());
+    same(rt, "row", &held.row.words[0], &want.version);
     assert!(rt; reader.breaks == breaks.len() as u64 && reader.recent.as_slice() == breaks);
     Ok(())
 }

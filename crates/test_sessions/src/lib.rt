@@ -22,6 +22,8 @@ mod renewing;
 #[cfg(test)]
 mod room;
 #[cfg(test)]
+mod same;
+#[cfg(test)]
 mod showing;
 #[cfg(test)]
 mod writing;

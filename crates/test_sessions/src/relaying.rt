@@ -10,6 +10,7 @@ use crate::configuration::expect_small;
 use crate::keys::ring_with;
 use crate::outlet::Outlet;
 use crate::room::TICKS;
+use crate::same::same;
 use crate::showing::{Expected, all_came, refusals};
 use cmd_relay::unsourced;
 use gateway_core::{Gateway, Ticked, a_gateway_that_is_not_renewed_stands_behind_its_steps};
@@ -90,7 +91,7 @@ pub(crate) fn renew<R: Abort>(
 {
     let ring = ring_with(tokens)?;
     let answer = outlet.gateway.renew(0, ring);
-    assert_eq!(rt; answer, is_kept);
+    same(rt, "renewed", &answer, &is_kept);
     shows_gateway(rt, &outlet.gateway, want);
     Ok(())
 }
@@ -132,20 +133,18 @@ fn shows_gateway<R: Abort>(rt: &R, gateway: &Gateway<'_>, want: Expected)
     requires gateway { IsGateway gateway.now }
     requires small { IsSmall gateway.now.config.now }
 {
-    assert_eq!(rt; gateway.moment(), want.moment);
-    assert_eq!(rt; gateway.standing(0), want.standing);
+    same(rt, "moment", &gateway.moment(), &want.moment);
+    same(rt, "standing", &gateway.standing(0), &want.standing);
     shows_counts(rt, gateway, want);
     let state = gateway.state(Component::Reader {
         read_group: 0,
         reader: 0,
     });
-    assert_eq!(rt; state, State::Operational);
+    same(rt, "state", &state, &State::Operational);
     let reader = gateway.reader(0, 0);
     let row = reader.row().expect(rt, "a row");
-    assert_eq!(rt;
-        (reader.number(), row.words[0]),
-        (Some(want.number), want.version)
-    );
+    same(rt, "number", &reader.number(), &Some(want.number));
+    same(rt, "row", &row.words[0], &want.version);
 }
 
 /// The counts of its read group and of its link.
@@ -154,9 +153,8 @@ fn shows_counts<R: Abort>(rt: &R, gateway: &Gateway<'_>, want: Expected)
     requires small { IsSmall gateway.now.config.now }
 {
     let tally = gateway.tally(0);
-    assert_eq!(rt; tally.taken, want.taken);
-    let causes = refusals(want.unknown);
-    assert!(rt; tally.causes.as_slice() == causes.as_slice());
-    let link = gateway.link();
-    assert!(rt; link == all_came(want.taken.saturating_add(want.unknown)));
+    same(rt, "taken", &tally.taken, &want.taken);
+    same(rt, "causes", &tally.causes, &refusals(want.unknown));
+    let came = want.taken.saturating_add(want.unknown);
+    same(rt, "link", &gateway.link(), &all_came(came));
 }

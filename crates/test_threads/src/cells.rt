@@ -5,6 +5,7 @@ ghost use Rattle.version_cell.specs.Known.{Known};
 ghost use Rattle.version_cell.specs.Passes.{IsPassOf};
 ghost use Rattle.test_threads.specs.Lists.{AreWriters};
 
+use crate::same::same;
 use crate::sample::{meta, patch};
 use dataset_meta::Meta;
 use row_words::Patch;
@@ -89,7 +90,7 @@ fn threads_write_beside_one_another(rt: HostRuntime) -> Result<(), Fail> {
     let patches = patches(&rt, rt.alloc(), cell.meta())?;
     write_beside(&rt, &cell, passes.as_mut_slice(), &patches);
     join_all(&rt, &cell, &mut first, passes);
-    assert_eq!(rt; first.version(), 200);
+    same(&rt, "version", &first.version(), &200);
     assert!(rt; first.row().words[..4] == [50, 50, 50, 50]);
     Ok(())
 }

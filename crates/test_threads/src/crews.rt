@@ -9,6 +9,7 @@ ghost use Rattle.app_threads.specs.Crews.{AreReady};
 ghost use Rattle.test_threads.specs.Lists.{AreThreeItems, IsDoneOf};
 
 use crate::order::Order;
+use crate::same::same;
 use crate::sample::{meta, patch};
 use app_threads::{Crew, Done, Item};
 use cell_bank::Bank;
@@ -138,7 +139,7 @@ fn demand_writes(rt: &impl Abort, order: &Order, done: &Done) {
     for k in 0..2u32 {
         let (before, after) = order.notes(done.list, k).expect(rt, "an item");
         let version = done.versions.as_slice()[k as usize].1;
-        assert_eq!(rt; (before.calls, after.calls), (1, 1));
+        same(rt, "calls", &(before.calls, after.calls), &(1, 1));
         assert!(rt; before.version < version && version <= after.version);
     }
 }
@@ -159,7 +160,7 @@ fn demand_looks(rt: &impl Abort, order: &Order, done: &Done) -> bool {
     let counts = done.looks.as_slice()[0].counts.as_slice();
     assert_eq!(rt; counts.len(), times_of(done.list) as usize);
     let (before, after) = order.notes(done.list, 2).expect(rt, "an item");
-    assert_eq!(rt; (before.calls, after.calls), (1, 1));
+    same(rt, "calls", &(before.calls, after.calls), &(1, 1));
     assert!(rt;
         done.versions
             .as_slice()
@@ -259,9 +260,9 @@ fn run_one<R: Threads + Wait + Abort + Sync>(rt: &R, alloc: Global) -> Result<bo
         &order,
         &mut || { attend(rt, &bank, &mut seen, &targets, &mut keeper, &order) },
     );
-    assert_eq!(rt; order.missed(), 0);
+    same(rt, "missed", &order.missed(), &0);
     let came = join_all(rt, &order, &bank, &mut seen, &targets, &mut looks, dones);
-    assert_eq!(rt; seen.pass(0).version(), 16);
+    same(rt, "version", &seen.pass(0).version(), &16);
     assert!(rt; looks.pass(0).version() <= stores);
     Ok(came)
 }

@@ -1,5 +1,6 @@
 //! The command `lanes` past the gate: the first turns of two groups wait for one another there, so their lanes run at once.
 use crate::meeting::Meeting;
+use crate::same::same;
 use cmd_lanes::lanes;
 use mem_edge::{MemoryFolder, MemoryLink, MemorySink, Name};
 use std::alloc::Global;
@@ -52,9 +53,9 @@ fn two_groups_turn_at_once(rt: HostRuntime) -> Result<(), Fail> {
         &gate,
         &mut out,
     );
-    assert_eq!(&rt; status.number(), 0);
+    same(&rt, "status", &status.number(), &0);
     assert!(&rt; out.bytes() == TOLD);
-    assert_eq!(&rt; gate.faults(), (0, 0));
+    same(&rt, "faults", &gate.faults(), &(0, 0));
     assert!(&rt; gate.is_told_of(2, 2));
     Ok(())
 }

@@ -5,6 +5,7 @@ ghost use Rattle.std.specs.Prelude.{◌<◌};
 use crate::counts::Counts;
 use crate::few::{Few, Work};
 use crate::meeting::Meeting;
+use crate::same::same;
 use group_threads::run_makers;
 use mem_edge::MemoryLink;
 use std::alloc::Global;
@@ -38,7 +39,7 @@ fn all_come<R: Threads + Wait + Sync + Abort>(rt: &R, alloc: Global, room: u32) 
         &mut link,
         &gate,
     )?;
-    assert_eq!(rt; gate.faults(), (0, 0));
+    same(rt, "faults", &gate.faults(), &(0, 0));
     assert!(rt; gate.is_told_of(2, u32::from(TURNS)));
     assert!(rt; ran.sent[0] <= 6 && ran.sent[1] <= 6);
     assert!(rt; ran.sent[0] + ran.sent[1] == 11);
