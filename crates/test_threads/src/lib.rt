@@ -17,8 +17,6 @@ mod order;
 #[cfg(test)]
 mod runs;
 #[cfg(test)]
-mod same;
-#[cfg(test)]
 mod sample;
 
 pub use counts::Counts;
