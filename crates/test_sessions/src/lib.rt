@@ -5,6 +5,8 @@
 mod calls;
 #[cfg(test)]
 mod configuration;
+#[cfg(test)]
+mod demanding;
 mod device;
 #[cfg(test)]
 mod ends;
@@ -21,8 +23,6 @@ mod relaying;
 mod renewing;
 #[cfg(test)]
 mod room;
-#[cfg(test)]
-mod same;
 #[cfg(test)]
 mod showing;
 #[cfg(test)]

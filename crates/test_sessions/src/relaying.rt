@@ -7,10 +7,10 @@ ghost use Rattle.test_sessions.specs.Devices.{IsSmall};
 ghost use Rattle.test_sessions.specs.Outlets.{IsOutlet};
 
 use crate::configuration::expect_small;
+use crate::demanding::demand;
 use crate::keys::ring_with;
 use crate::outlet::Outlet;
 use crate::room::TICKS;
-use crate::same::same;
 use crate::showing::{Expected, all_came, refusals};
 use cmd_relay::unsourced;
 use gateway_core::{Gateway, Ticked, a_gateway_that_is_not_renewed_stands_behind_its_steps};
@@ -91,7 +91,7 @@ pub(crate) fn renew<R: Abort>(
 {
     let ring = ring_with(tokens)?;
     let answer = outlet.gateway.renew(0, ring);
-    same(rt, "renewed", &answer, &is_kept);
+    demand(rt, answer == is_kept, "renewed");
     shows_gateway(rt, &outlet.gateway, want);
     Ok(())
 }
@@ -133,18 +133,18 @@ fn shows_gateway<R: Abort>(rt: &R, gateway: &Gateway<'_>, want: Expected)
     requires gateway { IsGateway gateway.now }
     requires small { IsSmall gateway.now.config.now }
 {
-    same(rt, "moment", &gateway.moment(), &want.moment);
-    same(rt, "standing", &gateway.standing(0), &want.standing);
+    demand(rt, gateway.moment() == want.moment, "moment");
+    demand(rt, gateway.standing(0) == want.standing, "standing");
     shows_counts(rt, gateway, want);
     let state = gateway.state(Component::Reader {
         read_group: 0,
         reader: 0,
     });
-    same(rt, "state", &state, &State::Operational);
+    demand(rt, state == State::Operational, "state");
     let reader = gateway.reader(0, 0);
     let row = reader.row().expect(rt, "a row");
-    same(rt, "number", &reader.number(), &Some(want.number));
-    same(rt, "row", &row.words[0], &want.version);
+    demand(rt, reader.number() == Some(want.number), "number");
+    demand(rt, row.words[0] == want.version, "row");
 }
 
 /// The counts of its read group and of its link.
@@ -153,8 +153,8 @@ fn shows_counts<R: Abort>(rt: &R, gateway: &Gateway<'_>, want: Expected)
     requires small { IsSmall gateway.now.config.now }
 {
     let tally = gateway.tally(0);
-    same(rt, "taken", &tally.taken, &want.taken);
-    same(rt, "causes", &tally.causes, &refusals(want.unknown));
+    demand(rt, tally.taken == want.taken, "taken");
+    demand(rt, tally.causes == refusals(want.unknown), "causes");
     let came = want.taken.saturating_add(want.unknown);
-    same(rt, "link", &gateway.link(), &all_came(came));
+    demand(rt, gateway.link() == all_came(came), "link");
 }

@@ -2,7 +2,7 @@
 ghost use Rattle.pubsub_engine.specs.Holding.{IsSession, plan_of};
 ghost use Rattle.test_sessions.specs.Devices.{IsSmall};
 
-use crate::same::same;
+use crate::demanding::demand;
 use dataset_reader::Passed;
 use ps_report::LinkEnd;
 use pubsub_engine::Session;
@@ -45,8 +45,8 @@ pub(crate) fn shows<R: Abort>(rt: &R, session: &Session<'_>, want: Expected)
     requires session { IsSession session.now }
     requires small { IsSmall (plan_of session.now).config }
 {
-    same(rt, "moment", &session.moment(), &want.moment);
-    same(rt, "standing", &session.standing(0), &want.standing);
+    demand(rt, session.moment() == want.moment, "moment");
+    demand(rt, session.standing(0) == want.standing, "standing");
     shows_counts(rt, session, want);
     shows_row(rt, session, want);
 }
@@ -57,10 +57,10 @@ fn shows_counts<R: Abort>(rt: &R, session: &Session<'_>, want: Expected)
     requires small { IsSmall (plan_of session.now).config }
 {
     let tally = session.tally(0);
-    same(rt, "taken", &tally.taken, &want.taken);
-    same(rt, "causes", &tally.causes, &refusals(want.unknown));
+    demand(rt, tally.taken == want.taken, "taken");
+    demand(rt, tally.causes == refusals(want.unknown), "causes");
     let came = want.taken.saturating_add(want.unknown);
-    same(rt, "link", &session.link(), &link_end(came, want.waiting));
+    demand(rt, session.link() == link_end(came, want.waiting), "link");
 }
 
 /// The state of the reader, its row, what it passed over, and where its last store comes from.
@@ -72,20 +72,20 @@ fn shows_row<R: Abort>(rt: &R, session: &Session<'_>, want: Expected)
         read_group: 0,
         reader: 0,
     });
-    same(rt, "state", &state, &State::Operational);
+    demand(rt, state == State::Operational, "state");
     let reader = session.reader(0, 0);
     let row = reader.row().expect(rt, "a row");
-    same(rt, "number", &reader.number(), &Some(want.number));
-    same(rt, "row", &row.words[0], &want.version);
+    demand(rt, reader.number() == Some(want.number), "number");
+    demand(rt, row.words[0] == want.version, "row");
     let passed = Passed {
         older: want.older,
         ..Passed::default()
     };
-    same(rt, "passed", &reader.passed(), &passed);
+    demand(rt, reader.passed() == passed, "passed");
     let origin = session.origin(0);
-    same(rt, "stores", &origin.store, &want.stores);
-    same(rt, "stored number", &origin.number, &Some(want.number));
-    same(rt, "version", &origin.version, &want.told());
+    demand(rt, origin.store == want.stores, "stores");
+    demand(rt, origin.number == Some(want.number), "stored number");
+    demand(rt, origin.version == want.told(), "version");
 }
 
 /// So many refusals, each for a token that isn't known.
