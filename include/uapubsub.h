@@ -57,6 +57,9 @@ enum {
     UAP_NUMBERS_AGAIN = 16,  /* numbers would be used again: the token is lower than the one in use, or is that one with a greater number used */
     UAP_NO_KIND = 17,        /* no kind of a field, or no list, has this number */
     UAP_STALE = 18,          /* the row that the reader holds is older than that */
+    UAP_UNSTORED = 19,       /* a datagram waits until its number is stored: uap_publisher_save, then uap_publisher_stored */
+    UAP_DAMAGED = 20,        /* the bytes aren't those that uap_publisher_save laid */
+    UAP_OTHER_CONFIG = 21,   /* the bytes are of another configuration */
 
     /* Why a datagram is refused. */
     UAP_HEADER_SHORT = 101,     /* it ends before its header does */
@@ -174,6 +177,16 @@ struct uap_taken {
     uint32_t bad;      /* how many of these couldn't be read */
 };
 
+/* What the read groups answered to a datagram. */
+struct uap_took {
+    uint32_t count;       /* how many read groups there are */
+    uint32_t took;        /* how many of them took it */
+    uint32_t answers[4];  /* of each of them UAP_OK, or why it refused it: UAP_HEADER_SHORT .. UAP_TOO_OLD */
+};
+
+/* How many bytes uap_publisher_save lays. */
+#define UAP_STATE_BYTES 336
+
 /* What a field is. */
 struct uap_field {
     uint32_t kind;     /* UAP_BOOLEAN .. UAP_STATUS_CODE */
@@ -259,10 +272,16 @@ uint32_t uapubsub_publisher_resume(struct uap_handle *handle, uint32_t keygroup,
 uint32_t uapubsub_publisher_resume_with(struct uap_handle *handle, uint32_t keygroup, uint64_t now_ms, uint32_t token, uint32_t used,
                                         const struct uap_key_set *sets, size_t count);
 uint32_t uapubsub_publisher_renew(struct uap_handle *handle, uint32_t keygroup, const struct uap_key_set *sets, size_t count);
+uint32_t uapubsub_publisher_save(struct uap_handle *handle, uint32_t reserve, uint8_t *buffer, size_t room, size_t *length);
+uint32_t uapubsub_publisher_stored(struct uap_handle *handle);
+uint32_t uapubsub_publisher_must_store(struct uap_handle *handle);
+uint32_t uapubsub_publisher_restore(struct uap_handle *handle, uint64_t now_ms, const uint8_t *bytes, size_t length);
+uint32_t uapubsub_writer_begin_at(struct uap_handle *handle, uint32_t group, uint32_t writer, uint16_t number);
 uint32_t uapubsub_writer_enable(struct uap_handle *handle, uint32_t group, uint32_t writer);
 uint32_t uapubsub_writer_disable(struct uap_handle *handle, uint32_t group, uint32_t writer);
 uint32_t uapubsub_subscriber_open(struct uap_handle *handle, const uint8_t *text, size_t length);
 uint32_t uapubsub_subscriber_datagram(struct uap_handle *handle, uint32_t group, uint64_t now_ms, uint8_t *bytes, size_t length, struct uap_taken *taken);
+uint32_t uapubsub_subscriber_take(struct uap_handle *handle, uint64_t now_ms, const uint8_t *bytes, size_t length, uint8_t *copy, size_t room, struct uap_took *took);
 uint32_t uapubsub_subscriber_expire(struct uap_handle *handle, uint64_t now_ms);
 uint32_t uapubsub_subscriber_renew(struct uap_handle *handle, uint32_t group, const struct uap_key_set *sets, size_t count);
 uint32_t uapubsub_reader_enable(struct uap_handle *handle, uint32_t group, uint32_t reader);
@@ -409,6 +428,9 @@ static inline const char *uap_status_name(uint32_t status) {
         UAP_NAMED(UAP_NUMBERS_AGAIN);
         UAP_NAMED(UAP_NO_KIND);
         UAP_NAMED(UAP_STALE);
+        UAP_NAMED(UAP_UNSTORED);
+        UAP_NAMED(UAP_DAMAGED);
+        UAP_NAMED(UAP_OTHER_CONFIG);
         UAP_NAMED(UAP_HEADER_SHORT);
         UAP_NAMED(UAP_VERSION);
         UAP_NAMED(UAP_DISCOVERY);
@@ -554,9 +576,16 @@ static inline uint32_t uap_writer_disable(struct uap_handle *handle, uint32_t gr
     return uapubsub_writer_disable(handle, group, writer);
 }
 
+/* The writer begins anew: its next data frame is a key frame with this number, as if the configuration's first_number were it. A device that
+ * goes on from the numbers of its last life calls it before its first uap_publisher_next; uap_publisher_restore does so for all writers. */
+static inline uint32_t uap_writer_begin_at(struct uap_handle *handle, uint32_t group, uint32_t writer, uint16_t number) {
+    if (handle == NULL) return UAP_NULL;
+    return uapubsub_writer_begin_at(handle, group, writer, number);
+}
+
 /* The next datagram that is due, laid into `buffer`; UAP_NONE where no other is. With UAP_ROOM it has `length` bytes, and waits.
  * Groups have their turns as they are due, each at multiples of its interval. Where a token changes as its key's moment comes, the groups
- * with these keys send key frames next. */
+ * with these keys send key frames next. UAP_UNSTORED: it waits, since what is stored doesn't cover its number (uap_publisher_save). */
 static inline uint32_t uap_publisher_next(struct uap_handle *handle, uint64_t now_ms, void *buffer, size_t room, size_t *length) {
     if (handle == NULL || buffer == NULL || length == NULL) return UAP_NULL;
     return uapubsub_publisher_next(handle, now_ms, UAP_BYTES(buffer), room, length);
@@ -666,6 +695,48 @@ static inline uint32_t uap_publisher_renew(struct uap_handle *handle, uint32_t k
     return uapubsub_publisher_renew(handle, keygroup, sets, count);
 }
 
+/* ---- what a device stores
+ *
+ * A token and a number may never come twice, over restarts neither. So a device stores bytes before it sends, and goes on after them:
+ *
+ *     at the start:   uap_publisher_renew with the stored ring, where one was stored; uap_publisher_restore with the stored bytes, where
+ *                     there are some; uap_publisher_save, store the bytes, uap_publisher_stored
+ *     in the loop:    if (uap_publisher_must_store(..) == UAP_OK) uap_publisher_save, store the bytes, uap_publisher_stored
+ *
+ * A program that calls none of these keeps the numbers itself (uap_publisher_standing, uap_publisher_resume). */
+
+/* Lays UAP_STATE_BYTES bytes to store at the front of the buffer, and `length` is how many: of each key group the token in use and a number
+ * `reserve` above the one used last, of each writer a message number that is ahead by `reserve`, by at most 8,192. From now on a datagram of a
+ * secured group is given only if its number is stored: a number that isn't covered by the bytes before the last uap_publisher_stored waits
+ * (UAP_UNSTORED). UAP_ROOM: the buffer is too short. */
+static inline uint32_t uap_publisher_save(struct uap_handle *handle, uint32_t reserve, void *buffer, size_t room, size_t *length) {
+    if (handle == NULL || buffer == NULL || length == NULL) return UAP_NULL;
+    return uapubsub_publisher_save(handle, reserve, UAP_BYTES(buffer), room, length);
+}
+
+/* The bytes that uap_publisher_save laid last are stored, and are those that a restart will find. */
+static inline uint32_t uap_publisher_stored(struct uap_handle *handle) {
+    if (handle == NULL) return UAP_NULL;
+    return uapubsub_publisher_stored(handle);
+}
+
+/* UAP_OK: save and store now: half of what is stored ahead is used, of a key group or a writer, or a token changed, or nothing is stored yet.
+ * UAP_NONE: there is no need, or the program never saved. */
+static inline uint32_t uap_publisher_must_store(struct uap_handle *handle) {
+    if (handle == NULL) return UAP_NULL;
+    return uapubsub_publisher_must_store(handle);
+}
+
+/* Goes on after stored bytes: each key group under the last token of its ring whose moment has come, after the stored number where that is
+ * the stored token, and each writer at its message number, with a key frame. UAP_DAMAGED: they aren't bytes of uap_publisher_save.
+ * UAP_OTHER_CONFIG: they are of a configuration with another publisher's id, other key groups' names, or other ids of groups or writers.
+ * UAP_EARLIER_TOKEN: the token of the moment is lower than the stored one. UAP_NUMBERS_AGAIN: a greater number is in use already, as by the
+ * configuration's `used`. With each of these nothing changes. Until the next uap_publisher_stored nothing more is given of secured groups. */
+static inline uint32_t uap_publisher_restore(struct uap_handle *handle, uint64_t now_ms, const void *bytes, size_t length) {
+    if (handle == NULL || bytes == NULL) return UAP_NULL;
+    return uapubsub_publisher_restore(handle, now_ms, UAP_TEXT(bytes), length);
+}
+
 /* ---- the subscriber */
 
 /* Opens a subscriber of a configuration. It takes all memory that it ever needs. */
@@ -678,6 +749,14 @@ static inline uint32_t uap_subscriber_open(struct uap_handle *handle, const void
 static inline uint32_t uap_subscriber_datagram(struct uap_handle *handle, uint32_t group, uint64_t now_ms, void *bytes, size_t length, struct uap_taken *taken) {
     if (handle == NULL || bytes == NULL || taken == NULL) return UAP_NULL;
     return uapubsub_subscriber_datagram(handle, group, now_ms, UAP_BYTES(bytes), length, taken);
+}
+
+/* A datagram came to all read groups: to each as uap_subscriber_datagram has it with a copy of its own, in their order. The bytes stay; `copy` is
+ * room of the program's, at least as long, where a read group may decrypt. UAP_ROOM: it is shorter, and no read group is given the datagram. */
+static inline uint32_t uap_subscriber_take(struct uap_handle *handle, uint64_t now_ms, const void *bytes, size_t length, void *copy, size_t room,
+                                           struct uap_took *took) {
+    if (handle == NULL || bytes == NULL || copy == NULL || took == NULL) return UAP_NULL;
+    return uapubsub_subscriber_take(handle, now_ms, UAP_TEXT(bytes), length, UAP_BYTES(copy), room, took);
 }
 
 /* Time goes on: a reader whose timeout has passed holds no row. */

@@ -25,6 +25,8 @@ void check_memory(void);
 void check_own(void);
 void check_readers(void);
 void check_refusals(void);
+void check_storing(void);
+void check_taking_all(void);
 
 // ---- datagrams
 

@@ -16,3 +16,5 @@ pub mod Owning
 pub mod Reading
 pub mod Setting
 pub mod Switching
+pub mod Storing
+pub mod Taking

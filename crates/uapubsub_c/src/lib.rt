@@ -24,8 +24,10 @@ mod refusals;
 mod setting;
 mod slot;
 mod status;
+mod storing;
 mod subscribing;
 mod switching;
+mod taking;
 
 pub use aging::{uapubsub_reader_age, uapubsub_reader_is_fresh, uapubsub_subscriber_due};
 pub use checking::uapubsub_config_check;
@@ -59,6 +61,10 @@ pub use setting::{
     uapubsub_set_word,
 };
 pub use status::Status;
+pub use storing::{
+    uapubsub_publisher_must_store, uapubsub_publisher_restore, uapubsub_publisher_save,
+    uapubsub_publisher_stored, uapubsub_writer_begin_at,
+};
 pub use subscribing::{
     TakenWords, uapubsub_reader_number, uapubsub_reader_why, uapubsub_subscriber_datagram,
     uapubsub_subscriber_expire, uapubsub_subscriber_open, uapubsub_subscriber_renew,
@@ -67,3 +73,4 @@ pub use switching::{
     uapubsub_reader_disable, uapubsub_reader_enable, uapubsub_writer_disable,
     uapubsub_writer_enable,
 };
+pub use taking::{TookWords, uapubsub_subscriber_take};

@@ -42,6 +42,12 @@ pub enum Status {
     NoKind,
     /// The row that is held is older than that.
     Stale,
+    /// A datagram waits, and what is stored doesn't cover its number.
+    Unstored,
+    /// The bytes aren't those of a state that was saved.
+    Damaged,
+    /// The state is of another configuration.
+    OtherConfig,
     /// The datagram is refused.
     Datagram(Refusal),
 }
@@ -69,6 +75,9 @@ impl Status {
             Status::NumbersAgain => 16,
             Status::NoKind => 17,
             Status::Stale => 18,
+            Status::Unstored => 19,
+            Status::Damaged => 20,
+            Status::OtherConfig => 21,
             Status::Datagram(refusal) => refusal_number(&refusal),
         }
     }
