@@ -3,6 +3,7 @@
 #![tactic(auto)]
 
 mod aging;
+mod beginning;
 mod checking;
 mod closing;
 mod getting;
@@ -23,6 +24,7 @@ mod receiving;
 mod refusals;
 mod setting;
 mod slot;
+mod states;
 mod status;
 mod storing;
 mod subscribing;
@@ -30,6 +32,7 @@ mod switching;
 mod taking;
 
 pub use aging::{uapubsub_reader_age, uapubsub_reader_is_fresh, uapubsub_subscriber_due};
+pub use beginning::uapubsub_writer_begin_at;
 pub use checking::uapubsub_config_check;
 pub use closing::uapubsub_close;
 pub use getting::{
@@ -60,10 +63,11 @@ pub use setting::{
     uapubsub_set_bytes, uapubsub_set_field_status, uapubsub_set_guid, uapubsub_set_text,
     uapubsub_set_word,
 };
+pub use states::{uapubsub_state_message, uapubsub_state_token, uapubsub_state_used};
 pub use status::Status;
 pub use storing::{
     uapubsub_publisher_must_store, uapubsub_publisher_restore, uapubsub_publisher_save,
-    uapubsub_publisher_stored, uapubsub_writer_begin_at,
+    uapubsub_publisher_stored,
 };
 pub use subscribing::{
     TakenWords, uapubsub_reader_number, uapubsub_reader_why, uapubsub_subscriber_datagram,
@@ -73,4 +77,4 @@ pub use switching::{
     uapubsub_reader_disable, uapubsub_reader_enable, uapubsub_writer_disable,
     uapubsub_writer_enable,
 };
-pub use taking::{TookWords, uapubsub_subscriber_take};
+pub use taking::{AnswerWords, TakingsWords, uapubsub_subscriber_take};

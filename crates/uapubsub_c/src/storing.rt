@@ -1,31 +1,30 @@
-//! What of a publisher's numbers is stored, and the numbers at which writers begin.
+//! What of a publisher's numbers is stored, and how it goes on after a restart.
 ghost use Rattle.std.specs.Prelude.{◌≡◌, ◌≢◌, IfErr};
 ghost use Rattle.device.specs.Sides.{IsPublisher};
 ghost use Rattle.uapubsub_c.specs.Answers.{Calls, OfPublisher, Stays};
 ghost use Rattle.uapubsub_c.specs.Handles.{IsReady, IsSound};
-ghost use Rattle.uapubsub_c.specs.Storing.{BeginsWriter, Restores, Saves, Stores, TellsMustStore};
+ghost use Rattle.uapubsub_c.specs.Storing.{Restores, Saves, Stores, TellsMustStore};
 
 use crate::handle::Handle;
-use crate::indexes::two_indexes;
 use crate::kept::Kept;
 use crate::laying::lay;
 use crate::status::{Status, number_of};
-use device::{Publisher, RestoreFault};
+use device::{Publisher, RestoreEnd};
 use std::alloc::Global;
 use stored_state::STATE_BYTES;
 
 /// Lays the bytes that a device stores at the front of the buffer: after a restart `uapubsub_publisher_restore` goes on after them. Of
-/// each key group they reserve `reserve` numbers. From now on a datagram of a secured group waits until its number is stored.
+/// each key group they reserve `ahead` numbers. From now on a datagram of a secured group waits until its number is in store.
 #[unsafe(no_mangle)]
 pub extern "C" fn uapubsub_publisher_save(
     alloc: Global,
     handle: &mut Handle,
-    reserve: u32,
+    ahead: u32,
     buffer: &mut [u8],
     count: &mut usize,
 ) -> u32
     requires { IsReady handle.old }
-    ensures saves { Calls (OfPublisher (Saves reserve buffer.old buffer.new count.new))
+    ensures saves { Calls (OfPublisher (Saves ahead buffer.old buffer.new count.new))
         handle.old result handle.new }
     ensures rest { result ≢ 0 → buffer.new ≡ buffer.old }
     ensures untold { result ≢ 0 → count.new ≡ 0 }
@@ -34,39 +33,39 @@ pub extern "C" fn uapubsub_publisher_save(
     let Some(mut kept) = handle.take(alloc) else {
         return Status::Closed.number();
     };
-    let answer = save_of(&mut kept, reserve, buffer, count);
+    let answer = save_of(&mut kept, ahead, buffer, count);
     handle.put(kept);
     number_of(answer)
 }
 
 fn save_of(
     kept: &mut Kept,
-    reserve: u32,
+    ahead: u32,
     buffer: &mut [u8],
     count: &mut usize,
 ) -> Result<(), Status>
     requires { IsSound kept.old }
     ensures sound { IsSound kept.new }
-    ensures saves { OfPublisher (Saves reserve buffer.old buffer.new count.new)
+    ensures saves { OfPublisher (Saves ahead buffer.old buffer.new count.new)
         kept.old result kept.new }
     ensures rest { IfErr result (λ _. buffer.new ≡ buffer.old) }
     ensures untold { IfErr result (λ _. count.new ≡ count.old) }
 {
     match kept {
-        Kept::Publisher(publisher) => save(publisher, reserve, buffer, count),
+        Kept::Publisher(publisher) => save(publisher, ahead, buffer, count),
         Kept::Subscriber(_) => Err(Status::OtherSide),
     }
 }
 
 fn save(
     publisher: &mut Publisher,
-    reserve: u32,
+    ahead: u32,
     buffer: &mut [u8],
     count: &mut usize,
 ) -> Result<(), Status>
     requires { IsPublisher publisher.old }
     ensures publisher { IsPublisher publisher.new }
-    ensures saves { Saves reserve buffer.old buffer.new count.new
+    ensures saves { Saves ahead buffer.old buffer.new count.new
         publisher.old result publisher.new }
     ensures rest { IfErr result (λ _. buffer.new ≡ buffer.old) }
     ensures untold { IfErr result (λ _. count.new ≡ count.old) }
@@ -74,7 +73,7 @@ fn save(
     if buffer.len() < STATE_BYTES {
         return Err(Status::Room);
     }
-    let bytes = publisher.save(reserve);
+    let bytes = publisher.save(ahead);
     *count = lay(&bytes, buffer);
     Ok(())
 }
@@ -137,49 +136,10 @@ fn restore(publisher: &mut Publisher, now: u64, bytes: &[u8]) -> Result<(), Stat
     ensures publisher { IsPublisher publisher.new }
     ensures restores { Restores now bytes.now publisher.old result publisher.new }
 {
-    match publisher.restore(bytes, now) {
+    match publisher.restore(now, bytes) {
         Ok(()) => Ok(()),
-        Err(RestoreFault::Damaged) => Err(Status::Damaged),
-        Err(RestoreFault::OtherConfiguration) => Err(Status::OtherConfig),
-        Err(RestoreFault::EarlierToken) => Err(Status::EarlierToken),
-        Err(RestoreFault::NumbersAgain) => Err(Status::NumbersAgain),
-    }
-}
-
-/// The writer with this index in the group with this index begins anew: its next data frame is a key frame with this number.
-#[unsafe(no_mangle)]
-pub extern "C" fn uapubsub_writer_begin_at(
-    alloc: Global,
-    handle: &mut Handle,
-    group: u32,
-    writer: u32,
-    number: u16,
-) -> u32
-    requires { IsReady handle.old }
-    ensures { Calls (OfPublisher (BeginsWriter group writer number))
-        handle.old result handle.new }
-{
-    number_of(handle.publisher(alloc, |publisher| {
-        begin_writer(publisher, group, writer, number)
-    }))
-}
-
-fn begin_writer(
-    publisher: &mut Publisher,
-    group: u32,
-    writer: u32,
-    number: u16,
-) -> Result<(), Status>
-    requires { IsPublisher publisher.old }
-    ensures publisher { IsPublisher publisher.new }
-    ensures begins { BeginsWriter group writer number publisher.old result publisher.new }
-{
-    let Some((group, writer)) = two_indexes(group, writer) else {
-        return Err(Status::Index);
-    };
-    if publisher.begin_at(group, writer, number) {
-        Ok(())
-    } else {
-        Err(Status::Index)
+        Err(RestoreEnd::Damaged) => Err(Status::Damaged),
+        Err(RestoreEnd::OtherConfig) => Err(Status::OtherConfig),
+        Err(RestoreEnd::LaterToken { .. }) => Err(Status::LaterToken),
     }
 }
