@@ -16,7 +16,7 @@ static const char small[] =
     "[[readgroup.reader]]\nname = \"reader\"\nwriter = 1\ndataset = \"set\"\n";
 
 // Room for what a call that succeeds would tell.
-static uint8_t bytes[DATAGRAM_BYTES], copy[DATAGRAM_BYTES];
+static uint8_t bytes[DATAGRAM_BYTES];
 static size_t length, lengths[4];
 static struct uap_key_set keys;
 static struct uap_guid guid;
@@ -123,8 +123,8 @@ static void demand_of_subscriber(struct uap_handle *handle, uint32_t status) {
     demand_of_readers(handle, 0, 0, status);
     demand_of_read_groups(handle, 0, status);
     uint64_t moment;
-    struct uap_took took;
-    DEMAND(uap_subscriber_take(handle, 0, bytes, 4, copy, sizeof copy, &took) == status);
+    struct uap_takings takings;
+    DEMAND(uap_subscriber_take(handle, 0, bytes, 4, &takings) == status);
     DEMAND(uap_subscriber_expire(handle, 0) == status && uap_subscriber_due(handle, 0, &moment) == status);
 }
 
@@ -223,11 +223,9 @@ static void check_null_outputs(struct uap_handle *publisher, struct uap_handle *
     DEMAND(uap_reader_last_fault(subscriber, 0, 0, NULL) == UAP_NULL && uap_reader_passed(subscriber, 0, 0, NULL) == UAP_NULL);
     DEMAND(uap_read_group_refused(subscriber, 0, NULL) == UAP_NULL && uap_reader_received(subscriber, 0, 0, NULL) == UAP_NULL);
     DEMAND(uap_read_group_last_taken(subscriber, 0, NULL) == UAP_NULL);
-    struct uap_took took;
+    struct uap_takings takings;
     DEMAND(uap_publisher_save(publisher, 9, NULL, 0, &length) == UAP_NULL && uap_publisher_save(publisher, 9, bytes, sizeof bytes, NULL) == UAP_NULL);
-    DEMAND(uap_subscriber_take(subscriber, 0, NULL, 0, copy, sizeof copy, &took) == UAP_NULL);
-    DEMAND(uap_subscriber_take(subscriber, 0, bytes, 4, NULL, 0, &took) == UAP_NULL);
-    DEMAND(uap_subscriber_take(subscriber, 0, bytes, 4, copy, sizeof copy, NULL) == UAP_NULL);
+    DEMAND(uap_subscriber_take(subscriber, 0, NULL, 0, &takings) == UAP_NULL && uap_subscriber_take(subscriber, 0, bytes, 4, NULL) == UAP_NULL);
 }
 
 // ---- indexes
@@ -310,7 +308,7 @@ static void check_listed(void) {
 
 static void check_names(void) {
     DEMAND(strcmp(uap_status_name(UAP_OK), "UAP_OK") == 0 && strcmp(uap_status_name(UAP_TOO_OLD), "UAP_TOO_OLD") == 0);
-    DEMAND(strcmp(uap_status_name(22), "?") == 0 && strcmp(uap_status_name(100), "?") == 0 && strcmp(uap_status_name(UINT32_MAX), "?") == 0);
+    DEMAND(strcmp(uap_status_name(24), "?") == 0 && strcmp(uap_status_name(100), "?") == 0 && strcmp(uap_status_name(UINT32_MAX), "?") == 0);
     DEMAND(strcmp(uap_why_name(UAP_WHY_GAP), "UAP_WHY_GAP") == 0 && strcmp(uap_why_name(6), "?") == 0);
 }
 

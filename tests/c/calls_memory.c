@@ -109,13 +109,14 @@ static void check_others(void) {
         DEMAND(uap_writer_disable(&publisher, 0, 0) == UAP_OK && uap_writer_enable(&publisher, 0, 0) == UAP_OK);
         DEMAND(uap_reader_disable(&subscriber, 0, 0) == UAP_OK && uap_reader_enable(&subscriber, 0, 0) == UAP_OK);
     }
-    uint8_t state[UAP_STATE_BYTES], copy[DATAGRAM_BYTES];
+    uint8_t state[UAP_STATE_BYTES];
     size_t length;
-    struct uap_took took;
-    DEMAND(uap_writer_begin_at(&publisher, 0, 0, 9) == UAP_OK && uap_publisher_save(&publisher, 9, state, sizeof state, &length) == UAP_OK);
+    uint32_t token;
+    struct uap_takings takings;
+    DEMAND(uap_writer_begin_at(&publisher, 0, 0, 9) == UAP_BEGUN && uap_publisher_save(&publisher, 9, state, sizeof state, &length) == UAP_OK);
     DEMAND(uap_publisher_stored(&publisher) == UAP_OK && uap_publisher_must_store(&publisher) == UAP_NONE);
-    DEMAND(uap_publisher_restore(&publisher, 1000, state, length) == UAP_OK);
-    DEMAND(uap_subscriber_take(&subscriber, 1000, datagram.bytes, datagram.length, copy, sizeof copy, &took) == UAP_OK);
+    DEMAND(uap_publisher_restore(&publisher, 1000, state, length) == UAP_OK && uap_state_token(state, length, 0, &token) == UAP_OK);
+    DEMAND(uap_subscriber_take(&subscriber, 1000, datagram.bytes, datagram.length, &takings) == UAP_OK);
     DEMAND(asked == 0);
     close_sides(&publisher, &subscriber);
     DEMAND(held == before);

@@ -2,7 +2,7 @@
 use Rattle.std.specs.Prelude.{◌≡◌, ℕ, ◌+◌, ◌<◌, ◌≤◌, List, [], ◌∷◌, length, slice_index_or, Option, Some, None, Result, Ok, Err}
 use Rattle.device.specs.Takings.{HaveTaken}
 use Rattle.device.specs.declared.subscriber.Subscriber.{Subscriber}
-use Rattle.device.specs.declared.taking.TheConstants.{MOST_BYTES}
+use Rattle.device.specs.declared.subscriber.TheConstants.{MOST_BYTES}
 use Rattle.reader_group.specs.declared.refusal.Refusal.{Refusal}
 use Rattle.reader_group.specs.declared.refusal.Taken.{Taken}
 use Rattle.uapubsub_c.specs.Numbers.{refusal_number, status_number}
