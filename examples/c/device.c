@@ -166,21 +166,21 @@ static bool are_renewed(struct device *device, char *lines) {
     return is_renewed(device, name, sets, count);
 }
 
-// Goes on with the keys of the file where it is another than before. Where it can't be read, or isn't what it has to be, that is said, and the
-// keys stay that the device has; at the start it ends.
-static void renew(struct device *device, uint64_t now) {
+// Goes on with the keys of the file where it is another than before. False: it can't be read, or isn't what it has to be. That is said, and the
+// keys stay that the device has.
+static bool renew(struct device *device, uint64_t now) {
     size_t length;
-    if (device->keys == NULL || now < device->keys_ms) return;
+    if (device->keys == NULL || now < device->keys_ms) return true;
     device->keys_ms = now + KEYS_MS;
-    bool is_read = uap_posix_read(device->keys, new_keys, sizeof new_keys - 1, &length) == 0;
-    if (is_read && device->keys_length == length && memcmp(keys, new_keys, length) == 0) return;
-    if (is_read) {
+    if (uap_posix_read(device->keys, new_keys, sizeof new_keys - 1, &length) == 0 && length > 0) {
+        if (length == device->keys_length && memcmp(keys, new_keys, length) == 0) return true;
         memcpy(keys, new_keys, length);
         new_keys[length] = '\0';
         device->keys_length = length;
+        if (are_renewed(device, new_keys)) return true;
     }
-    if (is_read && length > 0 && are_renewed(device, new_keys)) return;
     fprintf(stderr, "device: cannot take the keys of %s\n", device->keys);
+    return false;
 }
 
 // ---- numbers that are never used twice
@@ -322,8 +322,7 @@ int main(int count, char **words) {
     device.keys = words[5];
     open_sides(&device, words[1]);
     demand(uap_posix_udp_open(&device.udp, "127.0.0.1", (uint16_t)port, "127.0.0.1", (uint16_t)peer, 0) == 0, "cannot open the port");
-    renew(&device, now_ms(&device));
-    demand(device.keys == NULL || device.keys_length > 0, "there are no keys");
+    if (!renew(&device, now_ms(&device))) exit(1);
     restore(&device, words[1]);
     setvbuf(stdout, NULL, _IOLBF, 0);
     run(&device, now_ms(&device) + (uint64_t)seconds * 1000);
