@@ -45,7 +45,7 @@ enum {
     UAP_OPENED = 4,          /* the handle is open already */
     UAP_OTHER_SIDE = 5,      /* the handle is a subscriber's, and the call a publisher's, or the other way about */
     UAP_MEMORY = 6,          /* memory ran out */
-    UAP_REFUSED = 7,         /* the configuration is refused: uap_config_check says why */
+    UAP_REFUSED = 7,         /* the configuration is refused: uap_config_check says why, and uap_config_place where */
     UAP_INDEX = 8,           /* there is no such data set, field, key group, group, writer, read group or reader, or the read group has no keys */
     UAP_MISFIT = 9,          /* the field is there, and of another kind, or doesn't have this value or this status */
     UAP_ROOM = 10,           /* the buffer is too short */
@@ -158,6 +158,12 @@ struct uap_handle {
 
 #define UAP_CLOSED_HANDLE {0, NULL}
 
+/* Where a configuration that is refused is at fault. */
+struct uap_place {
+    uint32_t code;  /* the number of the fault: 1 of C1 BadToml, and so on (docs/CONFIGURATION.md) */
+    size_t line;    /* the line, from 1: of C1 that where the reader of TOML ended, else where the table begins that is at fault */
+};
+
 /* The keys of one token. An AES-128 key is the first 16 bytes of `encrypting`. The moment `from_ms` is of the clock of `now_ms`. */
 struct uap_key_set {
     uint32_t token;
@@ -262,6 +268,7 @@ struct uap_refused {
 /* ---- the proved calls, which take no null pointer. The calls below them test that first. */
 
 uint32_t uapubsub_config_check(const uint8_t *text, size_t length, uint8_t *error, size_t room, size_t *written);
+uint32_t uapubsub_config_place(const uint8_t *text, size_t length, struct uap_place *place);
 uint32_t uapubsub_close(struct uap_handle *handle);
 uint32_t uapubsub_count(struct uap_handle *handle, uint32_t list, uint32_t of, size_t *count);
 uint32_t uapubsub_name(struct uap_handle *handle, uint32_t list, uint32_t of, uint32_t index, uint8_t *buffer, size_t room, size_t *length);
@@ -343,6 +350,13 @@ static inline bool uap_version_fits(void) {
 static inline uint32_t uap_config_check(const void *text, size_t length, char *error, size_t room, size_t *written) {
     if (text == NULL || error == NULL || written == NULL) return UAP_NULL;
     return uapubsub_config_check(UAP_TEXT(text), length, UAP_BYTES(error), room, written);
+}
+
+/* Where a configuration is at fault that uap_config_check, or an opening, answers UAP_REFUSED to. UAP_NONE: it is none that is refused. The text is
+ * read once for each line up to that one, so this is for a person who waits, and not for a loop. */
+static inline uint32_t uap_config_place(const void *text, size_t length, struct uap_place *place) {
+    if (text == NULL || place == NULL) return UAP_NULL;
+    return uapubsub_config_place(UAP_TEXT(text), length, place);
 }
 
 /* Closes a handle of either side, and gives back its memory. */

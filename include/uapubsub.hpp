@@ -197,6 +197,13 @@ inline std::string refused(std::string_view text) {
     return line;
 }
 
+// Where a configuration that is refused is at fault. UAP_NONE: it is none that is refused.
+inline Result<uap_place> place(std::string_view text) {
+    uap_place it = {};
+    if (const Status status = uap_config_place(text.data(), text.size(), &it); !status) return status;
+    return it;
+}
+
 // The sending side.
 class Publisher : public detail::Side {
 public:

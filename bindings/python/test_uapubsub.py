@@ -13,7 +13,7 @@ KINDS = {"Boolean": (True, 1), "SByte": (-128, 128), "Byte": (255, 256), "Int16"
 KEY = dict(signing=bytes(range(32)), encrypting=bytes(range(16)), nonce=b"3333")
 # the types of the header's parameters, as the module names them
 TYPES = {"struct uap_handle *": "handle", "const uint8_t *": "bytes", "uint8_t *": "room", "size_t": "size", "size_t *": "size*", "uint16_t *": "u16*",
-         "uint32_t": "u32", "uint32_t *": "u32*", "uint64_t": "u64", "uint64_t *": "u64*", "const struct uap_key_set *": "sets", "struct uap_taken *": "taken*", "struct uap_takings *": "takings*",
+         "uint32_t": "u32", "uint32_t *": "u32*", "uint64_t": "u64", "uint64_t *": "u64*", "const struct uap_key_set *": "sets", "struct uap_taken *": "taken*", "struct uap_takings *": "takings*", "struct uap_place *": "place*",
          "const struct uap_guid *": "bytes", "struct uap_guid *": "room",
          "struct uap_fault *": "fault*", "struct uap_passed *": "passed*", "struct uap_received *": "received*", "struct uap_last_taken *": "last*",
          "struct uap_refused *": "refused*", "uint16_t": "u16"}
@@ -97,7 +97,7 @@ class OfTheHeader(unittest.TestCase):
         return re.sub(r"(?<=[a-z])(?=[A-Z])", "_", kind).upper()
 
     def test_structs(self):
-        sizes = {"handle": (_library.Handle, 16), "key_set": (u.KeySet, 80), "taken": (u.Taken, 12), "answer": (_library.Answer, 16), "takings": (_library.Takings, 68), "fault": (u.LastFault, 40), "passed": (u.Passed, 32),
+        sizes = {"handle": (_library.Handle, 16), "key_set": (u.KeySet, 80), "taken": (u.Taken, 12), "answer": (_library.Answer, 16), "takings": (_library.Takings, 68), "place": (u.Place, 16), "fault": (u.LastFault, 40), "passed": (u.Passed, 32),
                  "received": (u.Received, 32), "last_taken": (u.LastTaken, 8), "refused": (u.Refusals, 56)}
         for name, (ours, size) in sizes.items():
             block = re.search(rf"^struct uap_{name} {{\n(.*?)^}};", self.header, re.M | re.S)[1]
@@ -175,6 +175,11 @@ class Sides(OverSides):
         publisher.close()
         with self.assertRaises(u.Closed):
             publisher.standing("keys")
+
+    def test_a_fault_has_a_line(self):
+        self.assertIsNone(u.place(text()))
+        place = u.place(text().replace("interval = 100", "interval = 0"))
+        self.assertEqual((place.code, text().split("\n")[place.line - 1]), (9, "[[group]]"))
 
     def test_switches(self):
         publisher, subscriber = self.opened()

@@ -252,6 +252,7 @@ int main(int count, char **words) {
     check_kinds();
     check_memory();
     check_own();
+    check_places();
     check_readers();
     check_refusals();
     check_storing();

@@ -63,6 +63,12 @@ static uint32_t judge(struct uap_handle *handle, const void *text, size_t length
     return uap_config_check(text, length, line, sizeof line, &written);
 }
 
+static uint32_t place(struct uap_handle *handle, const void *text, size_t length) {
+    struct uap_place place;
+    (void)handle;
+    return uap_config_place(text, length, &place);
+}
+
 static uint32_t open_publisher(struct uap_handle *handle, const void *text, size_t length) {
     return uap_publisher_open(handle, text, length);
 }
@@ -125,6 +131,8 @@ static void check_others(void) {
 void check_memory(void) {
     check_taking(judge, small, UAP_OK);
     check_taking(judge, "[publisher]\nid = 9\n", UAP_REFUSED);
+    check_taking(place, small, UAP_NONE);
+    check_taking(place, "[publisher]\nid = 9\n", UAP_OK);
     check_taking(open_publisher, small, UAP_OK);
     check_taking(open_subscriber, small, UAP_OK);
     check_others();

@@ -74,6 +74,7 @@ void refused_states() {
     DEMAND(publisher.restore(0, state) == UAP_DAMAGED);
     DEMAND(Subscriber::open(text).value().take(0, std::vector<std::uint8_t>(UAP_MOST_DATAGRAM_BYTES + 1)).status() == UAP_ROOM);
     DEMAND(Subscriber::open(text).value().take(0, {})->groups[0].status == UAP_HEADER_SHORT && refused(text).empty());
+    DEMAND(place(text).status() == UAP_NONE && place("nonsense = 1\n")->code == 2 && place("publisher = {id = 'u8:9'}\n\n[[dataset]]\n")->line == 3);
 }
 
 }

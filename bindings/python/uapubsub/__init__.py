@@ -16,7 +16,7 @@ import ctypes, struct, threading, tomllib, uuid
 from ctypes import byref, c_size_t, c_uint16, c_uint32, c_uint64
 from typing import Any, Iterator, NamedTuple
 
-from ._library import Handle, KeySet, LastFault, LastTaken, Passed, Received, Refusals, Taken, Takings, library
+from ._library import Handle, KeySet, LastFault, LastTaken, Passed, Place, Received, Refusals, Taken, Takings, library
 from .errors import *
 from .errors import demand
 
@@ -44,6 +44,12 @@ def check(text: str | bytes) -> None:
     text, line, written = _encoded(text), ctypes.create_string_buffer(MOST_LINE_BYTES), c_size_t()
     status = library.uapubsub_config_check(text, len(text), line, MOST_LINE_BYTES, byref(written))
     demand(status, line.raw[: written.value].decode())
+
+
+def place(text: str | bytes) -> Place | None:
+    """Where a configuration that is refused is at fault: the number of the fault, and the line. None: it is none that is refused."""
+    text, place = _encoded(text), Place()
+    return None if demand(library.uapubsub_config_place(text, len(text), byref(place)), "place") else place
 
 
 def _encoded(text: str | bytes) -> bytes:

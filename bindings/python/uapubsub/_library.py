@@ -28,6 +28,12 @@ class Taken(Structure):
     _fields_ = [("parts", c_uint32), ("matched", c_uint32), ("bad", c_uint32)]
 
 
+class Place(Structure):
+    """Where a configuration is at fault: the number of the fault, and the line."""
+
+    _fields_ = [("code", c_uint32), ("line", c_size_t)]
+
+
 class Answer(Structure):
     """What a read group answered: its status, and what it took."""
 
@@ -74,12 +80,13 @@ class Refusals(Structure):
 # Each call with a word for each parameter, by the types of the header.
 TYPES = {"handle": POINTER(Handle), "bytes": c_char_p, "room": c_void_p, "size": c_size_t,
          "size*": POINTER(c_size_t), "u16*": POINTER(c_uint16), "u32": c_uint32, "u32*": POINTER(c_uint32), "u64": c_uint64, "u64*": POINTER(c_uint64),
-         "sets": POINTER(KeySet), "taken*": POINTER(Taken), "takings*": POINTER(Takings), "fault*": POINTER(LastFault), "passed*": POINTER(Passed),
+         "sets": POINTER(KeySet), "taken*": POINTER(Taken), "takings*": POINTER(Takings), "place*": POINTER(Place), "fault*": POINTER(LastFault), "passed*": POINTER(Passed),
          "received*": POINTER(Received), "last*": POINTER(LastTaken),
          "refused*": POINTER(Refusals), "u16": c_uint16}
 CALLS = """
 version
 config_check           bytes size room size size*
+config_place           bytes size place*
 close                  handle
 publisher_open         handle bytes size
 publisher_next         handle u64 room size size*

@@ -13,6 +13,7 @@ pub mod Noticing
 pub mod Numbers
 pub mod Opening
 pub mod Owning
+pub mod Places
 pub mod Reading
 pub mod Receiving
 pub mod Setting

@@ -19,6 +19,7 @@ mod listing;
 mod loose;
 mod noticing;
 mod owning;
+mod placing;
 mod publishing;
 mod receiving;
 mod refusals;
@@ -52,6 +53,7 @@ pub use owning::{
     uapubsub_group_may_turn, uapubsub_own_bytes, uapubsub_own_field_status, uapubsub_own_guid,
     uapubsub_own_text, uapubsub_own_word, uapubsub_publisher_due, uapubsub_publisher_group,
 };
+pub use placing::{PlaceWords, uapubsub_config_place};
 pub use publishing::{
     uapubsub_publisher_next, uapubsub_publisher_open, uapubsub_publisher_renew,
     uapubsub_publisher_resume, uapubsub_publisher_resume_with, uapubsub_publisher_standing,

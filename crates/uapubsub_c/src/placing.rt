@@ -1,0 +1,134 @@
+//! Where a configuration that is refused is at fault.
+ghost use Rattle.std.specs.Prelude.{◌≡◌, ◌≤◌, Err, IfErr, IfOk, length};
+ghost use Rattle.std.specs.Str.{bytes_eq};
+ghost use Rattle.config_tables.specs.Paths.{path_text};
+ghost use Rattle.ps_config.specs.Reading.{configuration};
+ghost use Rattle.uapubsub_c.specs.Answers.{IsTold};
+ghost use Rattle.uapubsub_c.specs.Places.{IsFaultLine, IsFirstShown, IsLineOf, TellsPlace, line_feeds, shows};
+
+use crate::status::{Status, tell};
+use config_tables::{Path, Placed, tables_of};
+use ps_config::{ConfigEnd, read_config};
+use std::alloc::Global;
+
+/// The number of the fault of a text that is no TOML document.
+const BAD_TOML: u8 = 1;
+
+/// The end of a line.
+const LINE_FEED: u8 = 10;
+
+/// Where a configuration that is refused is at fault, as C sees it.
+#[repr(C)]
+#[derive(Clone, Copy)]
+pub struct PlaceWords {
+    /// The number of the fault: 1 of C1 BadToml, and so on.
+    pub code: u32,
+    /// The line, from 1: of C1 that where the reader of TOML ended, else the first one with which the table that is at fault is there.
+    pub line: usize,
+}
+
+/// Tells where the configuration that the text is is at fault, if it is refused.
+#[unsafe(no_mangle)]
+pub extern "C" fn uapubsub_config_place(alloc: Global, text: &[u8], place: &mut PlaceWords) -> u32
+    ensures { IsTold (TellsPlace text.now) result place.old place.new }
+{
+    tell(place_in(alloc, text), place)
+}
+
+fn place_in(alloc: Global, text: &[u8]) -> Result<PlaceWords, Status>
+    ensures { TellsPlace text.now result }
+{
+    match read_config(alloc, text) {
+        Ok(_) => Err(Status::Nothing),
+        Err(ConfigEnd::Memory) => Err(Status::Memory),
+        Err(ConfigEnd::Refused { code, path }) => place_of(alloc, text, code, &path),
+    }
+}
+
+fn place_of(alloc: Global, text: &[u8], code: u8, path: &Path) -> Result<PlaceWords, Status>
+    requires { configuration text.now ≡ Err (code, path.now) }
+    ensures { TellsPlace text.now result }
+{
+    let line = line_of(alloc, text, code, path)?;
+    Ok(PlaceWords {
+        code: u32::from(code),
+        line,
+    })
+}
+
+fn line_of(alloc: Global, text: &[u8], code: u8, path: &Path) -> Result<usize, Status>
+    ensures line { IfOk result (IsFaultLine code path.now text.now) }
+    ensures memory { IfErr result (λ status. status ≡ Status.Memory) }
+{
+    if code == BAD_TOML {
+        return Ok(unread_line(alloc, text));
+    }
+    first_line_with(alloc, text, path)
+}
+
+/// The line where the reader of TOML ended.
+fn unread_line(alloc: Global, text: &[u8]) -> usize
+    ensures { IsLineOf text.now result }
+{
+    let end = unread_end(alloc, text);
+    1 + line_feeds(&text[..end])
+}
+
+fn unread_end(alloc: Global, text: &[u8]) -> usize
+    ensures { result ≤ length text.now }
+{
+    let Err(error) = toml::table_from_slice(alloc, text) else {
+        return text.len();
+    };
+    match error.span() {
+        Some(span) => span.start,
+        None => 0,
+    }
+}
+
+/// The first line with which the table at this path is there, of those that a text up to them is a document.
+fn first_line_with(alloc: Global, text: &[u8], path: &Path) -> Result<usize, Status>
+    ensures line { IfOk result (IsFirstShown path.now text.now) }
+    ensures memory { IfErr result (λ status. status ≡ Status.Memory) }
+{
+    for end in 0..text.len() {
+        if text[end] == LINE_FEED && shows(alloc, &text[..end], path)? {
+            return Ok(1 + line_feeds(&text[..end]));
+        }
+    }
+    Ok(1 + line_feeds(text))
+}
+
+/// Whether the text is a document that has a table at this path.
+fn shows(alloc: Global, front: &[u8], path: &Path) -> Result<bool, Status>
+    ensures shows { IfOk result (λ is. is ≡ shows path.now front.now) }
+    ensures memory { IfErr result (λ status. status ≡ Status.Memory) }
+{
+    let document = match toml::table_from_slice(alloc, front) {
+        Ok(document) => document,
+        Err(error) => {
+            if error.is_memory() {
+                return Err(Status::Memory);
+            }
+            return Ok(false);
+        }
+    };
+    match tables_of(alloc, &document) {
+        Ok(tables) => Ok(tables.iter().any(|placed| is_at(placed, path))),
+        Err(_) => Err(Status::Memory),
+    }
+}
+
+fn is_at(placed: &Placed, path: &Path) -> bool
+    ensures { result ≡ bytes_eq (path_text placed.now.place) path.now }
+{
+    Path::of(placed.place).as_bytes() == path.as_bytes()
+}
+
+/// How many lines end in the text.
+fn line_feeds(text: &[u8]) -> usize
+    ensures count { result ≡ line_feeds text.now }
+    ensures most { result ≤ length text.now }
+{
+    text.iter().filter(|byte| **byte == LINE_FEED).count()
+}
