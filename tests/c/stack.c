@@ -68,7 +68,7 @@ static const struct call judging[] = {{"config_check", check, UAP_REFUSED}, {"co
 /* (a datagram of the same device is of another publisher: it is refused, behind its header) */
 static const struct call all[] = {
     {"config_check", check, UAP_OK}, {"config_place", place, UAP_NONE}, {"publisher_open", open_publisher, UAP_OK}, {"subscriber_open", open_subscriber, UAP_OK}, {"name", name, UAP_OK},
-    {"writer_begin_at", begin_at, UAP_OK}, {"publisher_save", save, UAP_OK}, {"publisher_restore", restore, UAP_OK}, {"publisher_must_store", must_store, ANY},
+    {"writer_begin_at", begin_at, UAP_OK}, {"publisher_save", save, UAP_OK}, {"publisher_restore", restore, UAP_OK}, {"publisher_must_store", must_store, UAP_OK}, {"publisher_save, again", save, UAP_OK},
     {"publisher_stored", stored, UAP_OK}, {"state_token", state_token, UAP_OK},
     {"set_u32", set_u32, ANY}, {"set_text", set_text, ANY}, {"own_text", own_text, ANY}, {"publisher_due", due, UAP_OK}, {"publisher_next", next, UAP_OK},
     {"subscriber_datagram", take, ANY}, {"subscriber_take", take_all, UAP_OK}, {"reader_why", why, ANY}, {"get_u32", get_u32, ANY}, {"get_text", get_text, ANY}, {"subscriber_expire", expire, UAP_OK},
