@@ -3,9 +3,11 @@ pub mod Firsts
 pub mod Keys
 pub mod Looks
 pub mod Places
+pub mod Placing
 pub mod Refreshing
 pub mod Rings
 pub mod Rising
+pub mod RestoredLives
 pub mod RowLists
 pub mod Sending
 pub mod Telling

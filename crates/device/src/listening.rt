@@ -5,9 +5,10 @@ ghost use Rattle.dataset_meta.specs.Rows.{FitsAt};
 ghost use Rattle.group_keys.specs.Ring.{key_sets};
 ghost use Rattle.message_guard.specs.Protection.{keys_in};
 ghost use Rattle.ps_config.specs.Sound.{IsSound};
+ghost use Rattle.uadp_header.specs.Reading.{GivesHeader};
 ghost use Rattle.reader_group.specs.Filter.{takes_number};
 ghost use Rattle.reader_group.specs.Notices.{notice_at};
-ghost use Rattle.reader_group.specs.Groups.{GoesOnWith, HadIf, IsConfirmedAt, IsFreshAt, IsMadeOf, index_of, notices_of, reader_count, refused_of};
+ghost use Rattle.reader_group.specs.Groups.{GoesOnWith, HadIf, IsConfirmedAt, IsFreshAt, IsMadeOf, IsRefusedUnread, index_of, notices_of, reader_count, refused_of};
 ghost use Rattle.ps_config.specs.declared.parts.Config.{Config as ConfigValue};
 ghost use Rattle.device.specs.Due.{AreInTime, HasTimeout, IsInTime, TellsFirst, TimesOut};
 ghost use Rattle.device.specs.Readings.{HasExpired, HasGoneOff, HasSwitchedReader};
@@ -21,6 +22,7 @@ use pubsub_model::Why;
 use reader_group::{Notice, ReaderGroup, Refusal, Taken};
 use std::alloc::Global;
 use ua_base::NoMemory;
+use uadp_header::{Header, HeaderFault};
 
 /// A read group, whose readers are all on at first, with its place in the configuration.
 #[derive(Drop)]
@@ -68,6 +70,25 @@ impl Listening {
     {
         self.group
             .datagram_of_number(config, self.number, now, &self.on, bytes)
+    }
+
+    /// Refuses a datagram by its header alone, of which this was read (`ReaderGroup::refuse`). None, and nothing changes, where more has
+    /// to be read.
+    pub fn refuse(
+        &mut self,
+        config: &Config,
+        bytes: &[u8],
+        read: &Result<(Header<'_>, usize), HeaderFault>,
+    ) -> Option<Refusal>
+        requires listening { IsListening config.now self.old }
+        requires read { GivesHeader read.now bytes.now }
+        ensures listening { IsListening config.now self.new }
+        ensures refused { IfSome result
+            (IsRefusedUnread config.now self.old.number bytes.now self.old.group self.new.group) }
+        ensures none { IfNone result (self.new ≡ self.old) }
+        ensures rest { self.new ≡ record self.old { group = self.new.group } }
+    {
+        self.group.refuse(config, self.number, bytes, read)
     }
 
     /// Time goes on to this moment, in milliseconds (`ReaderGroup::expire`).
