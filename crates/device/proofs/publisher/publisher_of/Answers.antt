@@ -20,7 +20,7 @@ returns-clause-publisher c =
       rings_are = rings-opening c.args.config.keygroup senders rings (subst (λ (l : List KeyGroupPart). AllZip IsOpeningSender l senders) c.as_slice-2.ensures c.in_ok-senders.ensures.opening)
           (subst (λ (l : List KeyGroupPart). AllZip IsConfiguredRing l rings) c.as_slice-3.ensures c.in_ok-rings.ensures.opening);
       sides_are = c.in_ok-sides.ensures.sides;
-      reserved = c.in_ok-out.ensures.reserved;
+      reserved = c.in_ok-out.ensures.room;
       made_is = sym (ap (λ (l : List (List ℕ)). length l) c.in_ok-out.ensures.none);
       handed_is = omega arith;
     }
