@@ -305,7 +305,7 @@ restored-no-lower now state old new keygroup within has =
 
 -- a number that is given is of a key group that is there
 given-within : (keygroup now : ℕ) (old new : List SenderState) (pair : ℕ × ℕ) → HoldsAt (λ was. HoldsAt (IsGiven now pair was) new keygroup) old keygroup → keygroup < length new
-  unfolding no_sender
+unfolding no_sender
 given-within keygroup now old new pair gives = by_place (cases_lt keygroup (length new))
   where
     by_place : (keygroup < length new) ⊎ (length new ≤ keygroup) → keygroup < length new
@@ -318,7 +318,7 @@ given-within keygroup now old new pair gives = by_place (cases_lt keygroup (leng
 
 -- the sender that takes it is there too
 taken-within : (keygroup now : ℕ) (old new : List SenderState) (pair : ℕ × ℕ) → HoldsAt (λ was. HoldsAt (IsGiven now pair was) new keygroup) old keygroup → keygroup < length old
-  unfolding no_sender
+unfolding no_sender
 taken-within keygroup now old new pair gives = by_place (cases_lt keygroup (length old))
   where
     other : SenderState

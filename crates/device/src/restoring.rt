@@ -1,9 +1,10 @@
 //! How a publisher goes on after a restart.
-ghost use Rattle.std.specs.Prelude.{◌≡◌, ◌<◌, ◌≤◌, ℕ, IfErr, IfOk, IfSome, IfNone, OnErr, length};
+ghost use Rattle.std.specs.Prelude.{◌≡◌, ◌<◌, ◌≤◌, ◌%◌, ◌/◌, ◌^◌, ℕ, IfErr, IfOk, IfSome, IfNone, OnErr, length};
 ghost use Rattle.std.specs.Bool.{OnFalse, OnTrue};
+ghost use Rattle.std.specs.List.{HoldsAt};
 ghost use Rattle.stored_state.specs.States.{IsState};
 ghost use Rattle.stored_state.specs.declared.state.StoredState.{StoredState as StateValue};
-ghost use Rattle.device.specs.Restarts.{BeginsOrStays, HasBegunAt, HasNoLaterToken, HasLaterToken, HasRestoredFrom, HaveGoneOn, HaveNumbersBegun, IsStateOf, IsTurned, MayNotBegin, MayNotRestore};
+ghost use Rattle.device.specs.Restarts.{BeginsOrStays, HasBegunAt, HasGoneOn, HasNoLaterToken, HasLaterToken, HasRestoredFrom, HaveGoneOn, HaveNumbersBegun, IsStateOf, IsTurned, MayNotBegin, MayNotRestore, passed_over};
 ghost use Rattle.device.specs.Sides.{IsPublisher};
 
 use crate::fingerprint::fingerprint_of;
@@ -144,10 +145,20 @@ impl Publisher {
         ensures begun { HaveNumbersBegun 64 state.now.words self.old self.new }
     {
         for place in 0..WRITERS {
-            let group = (place / STATE_WRITERS) as u8;
-            let writer = (place % STATE_WRITERS) as u8;
-            self.begin_at(group, writer, state.words[MESSAGES_AT + place] as u16);
+            self.begin_place(place, state.words[MESSAGES_AT + place]);
         }
+    }
+
+    /// The writer at this place of 64, 16 a group, begins at the number, of which 16 bits count, where its group had no turn.
+    fn begin_place(&mut self, place: usize, word: u32)
+        requires publisher { IsPublisher self.old }
+        requires place { place < WRITERS }
+        ensures publisher { IsPublisher self.new }
+        ensures begun { BeginsOrStays (place / 16) (place % 16) (word % 2 ^ 16) self.old self.new }
+    {
+        let group = (place / STATE_WRITERS) as u8;
+        let writer = (place % STATE_WRITERS) as u8;
+        self.begin_at(group, writer, (word % 65_536) as u16);
     }
 
     /// Each key group goes on behind the state's pair.
@@ -158,10 +169,22 @@ impl Publisher {
             self.old self.new }
     {
         for k in 0..self.senders.len() {
-            let ring = copy_of(&self.rings[k]);
-            let used = passed_over(pair_in(&state.words, k), ring.at(now).token);
-            self.go_on(k as u8, now, used, ring);
+            self.go_on_behind(k, now, pair_in(&state.words, k));
         }
+    }
+
+    /// The key group with this index goes on behind the pair with its own ring, unless it used more numbers of its own.
+    fn go_on_behind(&mut self, keygroup: usize, now: u64, pair: (u32, u32))
+        requires publisher { IsPublisher self.old }
+        requires keygroup { keygroup < length self.old.senders.items }
+        ensures publisher { IsPublisher self.new }
+        ensures count { length self.new.senders.items ≡ length self.old.senders.items }
+        ensures gone { HoldsAt (HasGoneOn now keygroup pair self.old self.new)
+            self.old.senders.items keygroup }
+    {
+        let ring = copy_of(&self.rings[keygroup]);
+        let used = passed_over(pair, ring.at(now).token);
+        self.go_on(keygroup as u8, now, used, ring);
     }
 }
 

@@ -1,8 +1,9 @@
 //! What a publisher stores, so that a life after this one goes on after it.
-ghost use Rattle.std.specs.Prelude.{◌≡◌, ◌<◌, IsTrue};
+ghost use Rattle.std.specs.Prelude.{◌≡◌, ◌↔◌, ◌<◌, IsTrue};
 ghost use Rattle.std.specs.Bool.{OnFalse, OnTrue};
+ghost use Rattle.writer_group.specs.Parts.{group_at};
 ghost use Rattle.device.specs.Sides.{IsPublisher};
-ghost use Rattle.device.specs.Storing.{AreAhead, AreWords, FallsShort, HasSaved, HasStored, IsMessageAt, IsPairAt, IsWordAt, MayHandOver};
+ghost use Rattle.device.specs.Storing.{AreAhead, AreWords, FallsShort, HasSaved, HasStored, IsMessageAt, IsPairAt, IsReleased, IsWordAt, MayHandOver};
 
 use crate::fingerprint::fingerprint_of;
 use crate::publisher::Publisher;
