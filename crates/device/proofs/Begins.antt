@@ -1,9 +1,10 @@
 -- Writers that begin at another number, and senders that go on: what calls of a restart leave.
 use Rattle.std.proofs.Common.{◌≡◌, ◌≢◌, ℕ, zero, suc, ◌+◌, ◌*◌, ◌%◌, ◌/◌, ◌^◌, ◌<◌, ◌≤◌, ◌⊎◌, inl, inr, Bool, true, false, nat_eq, List, length, get_or, set, refl, sym, ap, subst, arith, ◌∙◌}
-use Rattle.std.specs.Prelude.{◌==◌, All, Some}
+use Rattle.std.specs.Prelude.{◌==◌, All, IsTrue, Option, Some}
 use Rattle.std.specs.Bool.{OnFalse, OnTrue}
-use Rattle.std.specs.List.{HoldsAt}
-use Rattle.std.proofs.lemmas.Bool.{OnTrue_from, false≢true}
+use Rattle.std.specs.List.{AllZip, HoldsAt}
+use Rattle.std.proofs.lemmas.Bool.{OnTrue_from, cases_eq, false≢true}
+use Rattle.std.proofs.lemmas.Option.{none-some, same_Some}
 use Rattle.std.proofs.lemmas.Bool.Decides.{eqb_tells}
 use Rattle.std.proofs.lemmas.List.{get_or-set_same, get_or_read, length-set}
 use Rattle.ps_config.specs.Beginning.{HasWriterAt, config_beginning}
@@ -12,15 +13,20 @@ use Rattle.ps_config.specs.declared.parts.GroupPart.{GroupPart}
 use Rattle.ps_config.specs.declared.parts.KeyGroupPart.{KeyGroupPart}
 use Rattle.group_keys.specs.declared.key_set.KeySet.{KeySet}
 use Rattle.group_keys.specs.KeySets.{current}
+use Rattle.group_keys.specs.Ring.{key_sets}
+use Rattle.group_keys.specs.declared.ring.Ring.{Ring}
 use Rattle.message_guard.specs.Senders.{SenderState}
 use Rattle.writer_group.specs.Standing.{IsGood, IsMadeFor, index_of, writer_count}
 use Rattle.device.specs.Restarts.{BeginsOrStays, HasBegunAt, HasGoneOn, HasSideBegun, HaveGoneOn, HaveNumbersBegun, IsUnturned, MayNotBegin, passed_over}
-use Rattle.device.specs.Resuming.{IsBehind, MayNotResume, WouldRepeat}
-use Rattle.device.specs.Sides.{ArePlaced, HasWriter, IsPublisher, IsSide}
-use Rattle.device.specs.Storing.{message_word, pair_in}
+use Rattle.device.specs.Resuming.{IsBehind, IsEarlier, MayNotResume, WouldRepeat}
+use Rattle.device.specs.Sides.{ArePlaced, HasRing, HasWriter, IsPublisher, IsSide}
+use Rattle.device.specs.Storing.{IsCovered, IsReleased, IsReleasedFor, MayHandOver, message_word, pair_in}
 use Rattle.device.specs.declared.publisher.Publisher.{Publisher}
 use Rattle.device.specs.declared.side.Side.{Side}
+use Rattle.device.specs.declared.store.Saved.{Saved as SavedState}
+use Rattle.writer_group.specs.Parts.{group_at}
 use Rattle.device.proofs.Placing.{placed-set, sides-begun}
+use Rattle.device.proofs.Rings.{ring-at}
 use Rattle.device.proofs.Sending.{no_sender}
 
 -- the configuration has the writer that a group has
@@ -58,13 +64,15 @@ pub numbers-more : (place word : ℕ) (words : List ℕ) (old mid new : Publishe
     → BeginsOrStays (place / 16) (place % 16) (word % 2 ^ 16) mid new → HaveNumbersBegun (place + 1) words old new
 numbers-more place word words old mid new is have begins =
     let same : word ≡ message_word words (place / 16) (place % 16) = is ∙ ap (λ (n : ℕ). get_or words n 0) (place-split place) in
-    subst (λ (n : ℕ). HaveNumbersBegun n words old new) (omega arith)
+    let more : suc place ≡ place + 1 = omega arith in
+    subst (λ (n : ℕ). HaveNumbersBegun n words old new) more
     (mid, (have, subst (λ (n : ℕ). BeginsOrStays (place / 16) (place % 16) (n % 2 ^ 16) mid new) same begins))
 
 pub gone-more : (now count : ℕ) (pair : ℕ × ℕ) (words : List ℕ) (old mid new : Publisher) → pair ≡ pair_in words count → HaveGoneOn now count words old mid
     → HoldsAt (HasGoneOn now count pair mid new) mid.senders.items count → HaveGoneOn now (count + 1) words old new
 gone-more now count pair words old mid new is have gone =
-    subst (λ (n : ℕ). HaveGoneOn now n words old new) (omega arith)
+    let more : suc count ≡ count + 1 = omega arith in
+    subst (λ (n : ℕ). HaveGoneOn now n words old new) more
     (mid, (have, subst (λ (p : ℕ × ℕ). HoldsAt (HasGoneOn now count p mid new) mid.senders.items count) is gone))
 
 pub gone-from : (result : Bool) (now keygroup used : ℕ) (pair : ℕ × ℕ) (sets : List KeySet) (set : KeySet) (old new : Publisher) → keygroup < length old.senders.items
@@ -145,3 +153,43 @@ due-at P moment read interval same due = by_case (eqb_tells moment read)
     by_case : ((moment == read) ≡ true) × (moment ≡ read) ⊎ ((moment == read) ≡ false) × (moment ≢ read) → OnTrue (nat_eq moment read) (P interval)
     by_case (inl equal) = OnTrue_from (nat_eq moment read) (P interval) (λ is. subst P (equal.1 ∙ same) due)
     by_case (inr other) = OnTrue_from (nat_eq moment read) (P interval) (λ is. absurd (false≢true (sym other.0 ∙ is)))
+
+-- ---- tokens that aren't later
+
+not-earlier : (now k : ℕ) (words : List ℕ) (senders : List SenderState) (rings : List Ring) (read : Ring) (set : KeySet) (d : SenderState) → AllZip HasRing senders rings → k < length senders
+    → read ≡ get_or rings k read → current (key_sets read) now ≡ Some set → (pair_in words k).0 ≤ set.token → ¬ IsEarlier now (pair_in words k).0 (get_or senders k d).sets
+not-earlier now k words senders rings read set d are low is current_is more = λ earlier.
+    let sets : key_sets read ≡ (get_or senders k d).sets = ap key_sets is ∙ ring-at senders rings k d read are low in
+    let same : set ≡ earlier.set = same_Some set earlier.set (sym current_is ∙ ap (λ (l : List KeySet). current l now) sets ∙ earlier.is) in
+    let token = ap (λ (s : KeySet). s.token) same in
+    let less = earlier.earlier in
+    absurd (omega (arith, more, token, less))
+
+pub timely-more : (now k : ℕ) (words : List ℕ) (senders : List SenderState) (rings : List Ring) (read : Ring) (set : KeySet) → AllZip HasRing senders rings → k < length senders
+    → read ≡ get_or rings k read → current (key_sets read) now ≡ Some set → (pair_in words k).0 ≤ set.token
+    → ((keygroup : ℕ) → keygroup < k → HoldsAt (λ (s : SenderState). ¬ IsEarlier now (pair_in words keygroup).0 s.sets) senders keygroup)
+    → (keygroup : ℕ) → keygroup < k + 1 → HoldsAt (λ (s : SenderState). ¬ IsEarlier now (pair_in words keygroup).0 s.sets) senders keygroup
+timely-more now k words senders rings read set are low is current_is more before keygroup below = by_place (cases_eq keygroup k)
+  where
+    by_place : (keygroup ≡ k) ⊎ (keygroup ≡ k → ⊥) → HoldsAt (λ (s : SenderState). ¬ IsEarlier now (pair_in words keygroup).0 s.sets) senders keygroup
+    by_place (inl here) =
+        subst (λ (n : ℕ). HoldsAt (λ (s : SenderState). ¬ IsEarlier now (pair_in words n).0 s.sets) senders n) (sym here)
+        (λ d. not-earlier now k words senders rings read set d are low is current_is more)
+    by_place (inr differs) = before keygroup (omega (arith, below, differs))
+
+-- ---- numbers that may be sent
+
+pub released-by : (result : Bool) (keygroup : ℕ) (publisher : Publisher) (sender : SenderState) (saved : SavedState) → keygroup < length publisher.senders.items
+    → sender ≡ get_or publisher.senders.items keygroup sender → publisher.store.saved ≡ Some saved → (IsTrue result → IsCovered keygroup sender publisher.store.covered)
+    → (IsCovered keygroup sender publisher.store.covered → IsTrue result) → (IsTrue result → IsReleased keygroup publisher) × (IsReleased keygroup publisher → IsTrue result)
+released-by result keygroup publisher sender saved low is some covers covered = (λ yes. inr (λ d. subst (λ (s : SenderState). IsCovered keygroup s publisher.store.covered)
+    (get_or_read publisher.senders.items keygroup sender low is d) (covers yes)), back)
+  where
+    back : IsReleased keygroup publisher → IsTrue result
+    back (inl none) = absurd (none-some saved (sym none ∙ some))
+    back (inr held) = covered (subst (λ (s : SenderState). IsCovered keygroup s publisher.store.covered) (sym is) (held sender))
+
+pub hands-over : (result : Bool) (keygroup : ℕ) (publisher : Publisher) → (group_at publisher.config publisher.from).keygroup ≡ Some keygroup
+    → (IsTrue result → IsReleased keygroup publisher) × (IsReleased keygroup publisher → IsTrue result) → OnTrue result (MayHandOver publisher) × OnFalse result (¬ MayHandOver publisher)
+hands-over true keygroup publisher keyed told = (subst (λ (o : Option ℕ). IsReleasedFor o publisher) (sym keyed) (told.0 refl), tt)
+hands-over false keygroup publisher keyed told = (tt, λ may. false≢true (told.1 (subst (λ (o : Option ℕ). IsReleasedFor o publisher) keyed may)))

@@ -82,7 +82,8 @@ taken-set (suc count) now datagram answers i x old new low (mid, (have, taken)) 
 pub taken-more : (count now : ℕ) (datagram : List ℕ) (answers : List (Option (Result Taken Refusal))) (x : Option (Result Taken Refusal)) (old mid new : Subscriber) → count < length answers
     → HaveTaken count now datagram answers old mid → HasTaken count now datagram mid new x → HaveTaken (count + 1) now datagram (set answers count x) old new
 taken-more count now datagram answers x old mid new low have taken =
-    subst (λ (n : ℕ). HaveTaken n now datagram (set answers count x) old new) (omega arith)
+    let more : suc count ≡ count + 1 = omega arith in
+    subst (λ (n : ℕ). HaveTaken n now datagram (set answers count x) old new) more
     (mid, (taken-set count now datagram answers count x old mid (omega arith) have,
     subst (λ (o : Option (Result Taken Refusal)). HasTaken count now datagram mid new o) (sym (get_or-set_same answers count x None low)) taken))
 

@@ -4,7 +4,7 @@ ghost use Rattle.std.specs.Bool.{OnFalse, OnTrue};
 ghost use Rattle.std.specs.List.{HoldsAt};
 ghost use Rattle.stored_state.specs.States.{IsState};
 ghost use Rattle.stored_state.specs.declared.state.StoredState.{StoredState as StateValue};
-ghost use Rattle.device.specs.Restarts.{BeginsOrStays, HasBegunAt, HasGoneOn, HasNoLaterToken, HasLaterToken, HasRestoredFrom, HaveGoneOn, HaveNumbersBegun, IsStateOf, IsTurned, MayNotBegin, MayNotRestore, passed_over};
+ghost use Rattle.device.specs.Restarts.{BeginsOrStays, HasBegunAt, HasGoneOn, HasNoLaterToken, HasLaterToken, HasRestored, HasRestoredFrom, HaveGoneOn, HaveNumbersBegun, IsStateOf, IsTurned, MayNotBegin, MayNotRestore, passed_over};
 ghost use Rattle.device.specs.Sides.{IsPublisher};
 
 use crate::fingerprint::fingerprint_of;
@@ -93,10 +93,25 @@ impl Publisher {
         ensures not { OnErr result (self.new ≡ self.old) }
         ensures refused { IfErr result (MayNotRestore now bytes.now self.old) }
     {
-        let state = self.state_of(bytes)?;
-        if let Some(keygroup) = self.later_token(now, &state) {
-            return Err(RestoreEnd::LaterToken { keygroup });
+        match self.state_of(bytes) {
+            Err(end) => Err(end),
+            Ok(state) => match self.later_token(now, &state) {
+                Some(keygroup) => Err(RestoreEnd::LaterToken { keygroup }),
+                None => {
+                    self.go_on_after(now, state);
+                    Ok(())
+                }
+            },
         }
+    }
+
+    /// Goes on after the state, which has no later token than the rings have.
+    fn go_on_after(&mut self, now: u64, state: StoredState)
+        requires publisher { IsPublisher self.old }
+        requires no_later { HasNoLaterToken now state.words self.old }
+        ensures publisher { IsPublisher self.new }
+        ensures restored { HasRestored now state self.old self.new }
+    {
         self.begin_all(&state);
         self.go_on_all(now, &state);
         let saved = Some(Saved { state, ahead: 1 });
@@ -104,7 +119,6 @@ impl Publisher {
             saved,
             covered: saved,
         };
-        Ok(())
     }
 
     /// The state that these bytes are of, where it is one of the configuration.

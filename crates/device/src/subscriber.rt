@@ -119,11 +119,7 @@ impl Subscriber {
         let listening = &mut self.groups[index];
         match listening.refuse(&self.config, bytes, read) {
             Some(refusal) => Err(refusal),
-            None => {
-                let copy = &mut self.room[..bytes.len()];
-                copy.copy_from_slice(bytes);
-                listening.datagram(&self.config, now, copy)
-            }
+            None => listening.datagram_copied(&self.config, now, bytes, &mut self.room),
         }
     }
 

@@ -1,3 +1,4 @@
+use Rattle.std.proofs.Common.{rules}
 use Rattle.device.proofs.Begins.{begins-at, begins-by}
 use Rattle.device.proofs.publisher.Publisher.begin_place.Goals as goal
 

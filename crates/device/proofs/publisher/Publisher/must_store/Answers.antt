@@ -1,10 +1,5 @@
-use Rattle.std.proofs.Common.{◌≡◌, ℕ, ◌<◌, ◌≤◌, length, refl, arith, ◌∙◌}
-use Rattle.std.proofs.lemmas.Bool.{false≢true}
-use Rattle.message_guard.specs.Senders.{SenderState}
-use Rattle.device.specs.Storing.{IsAheadIn}
-use Rattle.device.proofs.Places.{holds-at}
-use Rattle.device.proofs.Savings.{more-held}
+use Rattle.std.proofs.Common.{◌<◌, ◌≤◌, length, arith}
 use Rattle.device.proofs.publisher.Publisher.must_store.Goals as goal
 
 pub returns-clause-not : goal.returns-clause-not
-returns-clause-not c = ?
+returns-clause-not c = λ keygroup within. c.loop-k.invariant keygroup (omega (arith, within, c.loop-k-test.false, c.loop-k.auto.k-end, c.len-k-end.ensures, c.args.self.now.senders.ok.0))

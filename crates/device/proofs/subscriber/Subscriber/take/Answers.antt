@@ -1,5 +1,6 @@
 use Rattle.std.proofs.Common.{◌≡◌, ◌<◌, ◌≤◌, length, ap, arith, ◌∙◌}
 use Rattle.std.specs.Prelude.{Some}
+use Rattle.std.proofs.lemmas.List.{length-set}
 use Rattle.device.proofs.Taking.{others-more, some-listening, taken-count, taken-more}
 use Rattle.device.proofs.subscriber.Subscriber.take.Goals as goal
 
@@ -14,7 +15,8 @@ loop-g-preserved c =
     record {
       subscriber = c.take_one.ensures.subscriber;
       count = taken-count g c.args.now c.args.bytes.now mid new answer c.take_one.ensures.taken (some-listening mid.groups.items g low) ∙ invariant.count;
-      taken = taken-more g c.args.now c.args.bytes.now c.loop-g.answers answer c.args.self.now mid new (omega (arith, low, invariant.subscriber.few, c.loop-g.auto.answers)) invariant.taken
+      answers = length-set c.loop-g.answers g answer ∙ invariant.answers;
+      taken = taken-more g c.args.now c.args.bytes.now c.loop-g.answers answer c.args.self.now mid new (omega (arith, low, invariant.subscriber.few, invariant.answers)) invariant.taken
           c.take_one.ensures.taken;
       others = others-more g c.loop-g.answers answer invariant.others;
     }

@@ -7,6 +7,7 @@ abbrev pub invariant-loop-g : goal.invariant-loop-g
 invariant-loop-g l = record {
   subscriber : IsSubscriber l.self;
   count : length l.self.groups.items ≡ length l.fn.self.groups.items;
+  answers : length l.answers ≡ 4;
   taken : HaveTaken l.g l.now l.bytes l.answers l.fn.self l.self;
   others : AnswersNoOthers l.g l.answers;
 }
