@@ -1,6 +1,7 @@
 //! What a publisher stores, so that a life after this one goes on after it.
 ghost use Rattle.std.specs.Prelude.{◌≡◌, ◌↔◌, ◌<◌, IfSome, IsTrue, length};
 ghost use Rattle.std.specs.Bool.{OnFalse, OnTrue};
+ghost use Rattle.stored_state.specs.States.{IsState};
 ghost use Rattle.writer_group.specs.Parts.{group_at};
 ghost use Rattle.device.specs.Sides.{IsPublisher};
 ghost use Rattle.device.specs.Storing.{AreAhead, AreWords, FallsShort, HasSaved, HasStored, IsMessageAt, IsPairAt, IsReleased, IsWordAt, MayHandOver};
@@ -29,10 +30,7 @@ impl Publisher {
         ensures publisher { IsPublisher self.new }
         ensures saved { HasSaved ahead self.old self.new result }
     {
-        let state = StoredState {
-            fingerprint: fingerprint_of(&self.config),
-            words: self.words(ahead),
-        };
+        let state = state_with(fingerprint_of(&self.config), self.words(ahead));
         self.store.saved = Some(Saved { state, ahead });
         state.write()
     }
@@ -157,4 +155,13 @@ impl Publisher {
             Some(number) => (u32::from(number) + ahead.min(MOST_AHEAD)) % 65536,
         }
     }
+}
+
+/// The state with this fingerprint and these numbers.
+fn state_with(fingerprint: [u8; 32], words: [u32; 72]) -> StoredState
+    ensures state { IsState result }
+    ensures fingerprint { result.fingerprint ≡ fingerprint }
+    ensures words { result.words ≡ words }
+{
+    StoredState { fingerprint, words }
 }
