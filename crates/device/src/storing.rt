@@ -30,7 +30,7 @@ impl Publisher {
         ensures publisher { IsPublisher self.new }
         ensures saved { HasSaved ahead self.old self.new result }
     {
-        let state = state_with(fingerprint_of(&self.config), self.words(ahead));
+        let state = state_with(&fingerprint_of(&self.config), &self.words(ahead));
         self.store.saved = Some(Saved { state, ahead });
         state.write()
     }
@@ -158,10 +158,13 @@ impl Publisher {
 }
 
 /// The state with this fingerprint and these numbers.
-fn state_with(fingerprint: [u8; 32], words: [u32; 72]) -> StoredState
+fn state_with(fingerprint: &[u8; 32], words: &[u32; 72]) -> StoredState
     ensures state { IsState result }
-    ensures fingerprint { result.fingerprint ≡ fingerprint }
-    ensures words { result.words ≡ words }
+    ensures fingerprint { result.fingerprint ≡ fingerprint.now }
+    ensures words { result.words ≡ words.now }
 {
-    StoredState { fingerprint, words }
+    StoredState {
+        fingerprint: *fingerprint,
+        words: *words,
+    }
 }
