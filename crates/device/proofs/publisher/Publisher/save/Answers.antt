@@ -6,7 +6,7 @@ use Rattle.device.proofs.publisher.Publisher.save.Goals as goal
 pub returns-clause-saved : goal.returns-clause-saved
 returns-clause-saved c =
     let state = c.state_with-state.result in
-    let are : AreWords c.args.ahead c.args.self.now state.words = subst (λ (l : List ℕ). AreWords c.args.ahead c.args.self.now l) (sym c.state_with-state.ensures.words) c.words.ensures in
+    let are : AreWords c.args.ahead c.args.self.now state.words = subst (λ (l : List ℕ). AreWords c.args.ahead c.args.self.now l) (sym c.state_with-state.ensures.words) c.words.ensures.words in
     record {
       publisher = c.requires;
       state = state;
