@@ -22,7 +22,7 @@ use session_laws::what_the_laws_below_say;
 /// - and a row that it holds is the whole row of a version in the history of the writer's data set: that which the publisher had at the
 ///   writer's turn whose data frame has the held number, in 16 bits (`holds`)
 ///
-/// Near are places of which each is less than 16,384 above the greatest before it since the last cut, and less than 1,024 below.
+/// Near are places of which each is at most 16,384 above and 49,151 below the greatest so far, in each stretch without a cut.
 pub fn readers_hold_whole_rows_where_places_are_near()
     ensures comes { (text other : List ℕ) (pl : PublisherLife) (sl : SubscriberLife)
         (readers : ReadGroupPart) (r i g w : ℕ) → ArePaired text other pl sl readers r i g w
