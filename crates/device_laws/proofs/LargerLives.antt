@@ -18,7 +18,7 @@ use Rattle.writer_group.specs.Standing.{datagrams_in}
 use Rattle.group_laws.specs.Matching.{IsMatchedTo}
 use Rattle.device.specs.declared.asked.Next.TheVariants.{Datagram}
 use Rattle.device.specs.declared.publisher.Publisher.{Publisher}
-use Rattle.device.specs.Coming.{turned_to}
+use Rattle.device.specs.Coming.{HasCome, turned_to}
 use Rattle.device_laws.specs.Alike.{ReadsAlike}
 use Rattle.device_laws.specs.Devices.{member_in}
 use Rattle.device_laws.specs.Larger.{IsRenewedRun, MeetsRenewed, MeetsSecured, sets_of}
@@ -73,10 +73,10 @@ module _ (text : List ℕ) (r i g w k : ℕ) (run : IsRenewedRun text r k) (ther
   abbrev first_steps : List PublisherStep
   first_steps = record { call = Renewed k run.sets; after = run.renewed } ∷ record { call = SetField run.index run.field run.value run.status; after = run.set } ∷ []
 
-  came-first : _
+  came-first : HasCome run.now Datagram run.renewed run.came
   came-first = run.comes.came (omega (arith, renewed-none))
 
-  came-then : _
+  came-then : HasCome run.later Datagram run.lost run.again
   came-then = run.comes_again.came run.none_waits
 
   abbrev lost_steps : List PublisherStep

@@ -1,5 +1,5 @@
 -- What comes to a matched reader is what its writer answered, however many turns it had: the numbers of each datagram stand for places from its answer's on.
-use Rattle.std.proofs.Common.{◌≡◌, refl, sym, ap, ◌∙◌, subst, arith, ℕ, ◌<◌, ◌≤◌, List, [], ◌∷◌, inl, inr, Option, Some, None, All, Contains}
+use Rattle.std.proofs.Common.{◌≡◌, refl, sym, ap, ◌∙◌, subst, arith, ℕ, zero, suc, ◌+◌, ◌<◌, ◌≤◌, Bool, List, [], ◌∷◌, inl, inr, Option, Some, None, All, Contains}
 use Rattle.std.specs.Prelude.{false, ◌⊎◌, ◌==◌, slice_get, slice_index_or, Result, Ok, Err, if◌then◌else◌}
 use Rattle.std.proofs.lemmas.List.Elements.{All-nil, All-weaker}
 use Rattle.std.proofs.lemmas.Option.{get_or_from_slice_get, slice_get-get_or, slice_get_within}
@@ -51,11 +51,14 @@ pair-place a n p q e = sym (ap (λ (x : ℕ × ℕ). x.1) e)
 pair-number : (a n p q : ℕ) → Path (ℕ × ℕ) (a, p) (n, q) → n ≡ a
 pair-number a n p q e = sym (ap (λ (x : ℕ × ℕ). x.0) e)
 
-has-none : (pair : ℕ × ℕ) → Contains {ℕ × ℕ} [] pair → ⊥
+abbrev none : List (ℕ × ℕ)
+none = []
+
+has-none : (pair : ℕ × ℕ) → Contains none pair → ⊥
 has-none pair has = let below = has.1 in omega (arith, below)
 
 alone-is : (only pair : ℕ × ℕ) → Contains (only ∷ []) pair → only ≡ pair
-alone-is only pair (0, below, same) = same
+alone-is only pair (zero, below, same) = same
 alone-is only pair (suc k, below, same) = absurd (omega (arith, below))
 
 module _ (laws : TurnLaws) (config : Config) (group : GroupPart) (readers : ReadGroupPart) (reader writer : ℕ) (matched : IsMatchedTo config readers reader group writer) where
@@ -189,7 +192,7 @@ module _ (laws : TurnLaws) (config : Config) (group : GroupPart) (readers : Read
 
   module _ (index : ℕ) (pasts : ℕ → List GroupDeed) (sound : IsSound config) (there : slice_get config.group index ≡ Some group)
       (are_pasts : (h : ℕ) (part : GroupPart) → slice_get config.group h ≡ Some part → IsPast config part (pasts h)) (way : Way) (own_seat : way.seat ≡ seat) where
-    turns : AreTurns config group (pasts index)
+    pub turns : AreTurns config group (pasts index)
     turns = (are_pasts index group there).turns
 
     abbrev Sent : List Mark → Type 0
@@ -200,21 +203,21 @@ module _ (laws : TurnLaws) (config : Config) (group : GroupPart) (readers : Read
       where
         on : WasMade (pasts index) datagram ⊎ (pieces seat.part opened.payload ≡ []) → HasPlaces (pasts index) turns opened
         on (inl own) = made-places (pasts index) turns pairs datagram opened own e
-        on (inr none) = record {
+        on (inr empty) = record {
           sent = [];
           from = 0;
           each = λ number own has. absurd (has-none (number, own) has);
           named = λ number own has. absurd (has-none (number, own) has);
           parts = let s = sending (pasts index) turns [] in
-              subst (All (IsSentPiece s seat.meta opened.pass.token opened.pass.number)) (sym none) (All-nil (IsSentPiece s seat.meta opened.pass.token opened.pass.number));
+              subst (All (IsSentPiece s seat.meta opened.pass.token opened.pass.number)) (sym empty) (All-nil (IsSentPiece s seat.meta opened.pass.token opened.pass.number));
         }
 
     -- a list that goes on with a datagram
-    record GoesOn (now : ℕ) (enabled : Rattle.std.specs.Prelude.Bool) (pairs : Accepted) (before : List Mark) (answer : Result Opened Refusal) : Type 0 where
+    record GoesOn (now : ℕ) (enabled : Bool) (pairs : Accepted) (before : List Mark) (answer : Result Opened Refusal) : Type 0 where
       from : ℕ
       sent : Sent (taken_in setting (placed_from way from) now enabled pairs before answer)
 
-    goes-on : (now : ℕ) (enabled : Rattle.std.specs.Prelude.Bool) (pairs : Accepted) (before : List Mark) (answer : Result Opened Refusal) → ((opened : Opened) → answer ≡ Ok opened → HasPlaces (pasts index) turns opened) → Sent before
+    goes-on : (now : ℕ) (enabled : Bool) (pairs : Accepted) (before : List Mark) (answer : Result Opened Refusal) → ((opened : Opened) → answer ≡ Ok opened → HasPlaces (pasts index) turns opened) → Sent before
         → GoesOn now enabled pairs before answer
     goes-on now enabled pairs before (Err refusal) has h = record { from = 0; sent = h }
     goes-on now enabled pairs before (Ok opened) has h =
