@@ -93,10 +93,19 @@ module _ (text : List ℕ) (r i g w k : ℕ) (run : IsRenewedRun text r k) (ther
   publisher : IsPublisherLife text pl
   publisher = record {
     opened = run.opened;
-    steps_are = (run.again_is, record { none_waited = run.none_waits; came = came-then; did_is = refl },
-        (run.lost_is, (run.waits, run.lost_as),
-            (run.came_is, record { none_waited = omega (arith, renewed-none); came = came-first; did_is = refl },
-                (run.renewed_is, run.was_renewed, (run.set_is, run.was_set, tt)))));
+    steps_are = (
+      run.again_is,
+      record { none_waited = run.none_waits; came = came-then; did_is = refl },
+      (
+        run.lost_is,
+        (run.waits, run.lost_as),
+        (
+          run.came_is,
+          record { none_waited = omega (arith, renewed-none); came = came-first; did_is = refl },
+          (run.renewed_is, run.was_renewed, (run.set_is, run.was_set, tt)),
+        ),
+      ),
+    );
   }
 
   abbrev waiting : SubscriberLife

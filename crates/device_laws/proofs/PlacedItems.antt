@@ -144,7 +144,8 @@ module _ (laws : TurnLaws) (config : Config) (group : GroupPart) (readers : Read
         sent = (opened.pass.number, place_of frame) ∷ [];
         from = place_of frame;
         each = λ number own has. (
-          frame, (answer-now config group past turn writer frame is a, sym (pair-place opened.pass.number number (place_of frame) own (alone-is (opened.pass.number, place_of frame) (number, own) has)))
+          frame,
+          (answer-now config group past turn writer frame is a, sym (pair-place opened.pass.number number (place_of frame) own (alone-is (opened.pass.number, place_of frame) (number, own) has))),
         );
         named = λ number own has.
             subst (λ (p : ℕ). place_from (place_of frame) (number_of_place p) ≡ p)
