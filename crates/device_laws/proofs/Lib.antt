@@ -28,7 +28,9 @@ mod RingedReads
 mod Ringing
 mod Rows
 mod Senders
+mod SentSince
 mod Signs
+mod SinceReset
 mod SmallLife
 mod Standing
 mod Told

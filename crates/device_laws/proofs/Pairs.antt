@@ -114,18 +114,18 @@ answer-told text first r opened low before are now datagram left is new has take
     )
 
 module _ (text : List ℕ) (first : Subscriber) (r : ℕ) (opened : IsOpenSubscriber text first) (low : r < length first.config.readgroup) (P : List ℕ → Type 0) (config : Config) (pasts : ℕ → List GroupDeed) (makes : (datagram : List ℕ) → P datagram → IsMade config pasts datagram) where
-  abbrev S : Setting
+  abbrev pub S : Setting
   S = setting_of first.config r
 
   -- the call's answer is that of the plain reading
-  answer-is : (before : List SubscriberStep) → AreSubscriberSteps first before → AreOwnKeys before r S.setup.keys → (now : ℕ) (datagram left : List ℕ) (is : Result Taken Refusal) (new : Subscriber)
+  pub answer-is : (before : List SubscriberStep) → AreSubscriberSteps first before → AreOwnKeys before r S.setup.keys → (now : ℕ) (datagram left : List ℕ) (is : Result Taken Refusal) (new : Subscriber)
       → HasListened r now datagram left (subscriber_after first before) new is → TakesNumber r datagram (subscriber_after first before) → (on : List Bool) × (is ≡ answer S (plain S (events first before r)) now on datagram)
   answer-is before are own now datagram left is new has takes =
       let told = answer-told text first r opened low before are now datagram left is new has takes in
       (told.0, told.1 ∙ ap (λ (x : Reading). answer (with_keys S x.keys) x.value now told.0 datagram) (plain-reading first r before own))
 
   -- a datagram that the read group took
-  took-made : (list : List Event) (group now : ℕ) (datagram : List ℕ) (is : Result Taken Refusal) (on : List Bool) (opens : Opened) → is ≡ answer S (plain S list) now on datagram → group ≡ r
+  pub took-made : (list : List Event) (group now : ℕ) (datagram : List ℕ) (is : Result Taken Refusal) (on : List Bool) (opens : Opened) → is ≡ answer S (plain S list) now on datagram → group ≡ r
       → IsTaken (Came group now datagram is) r P → verdict S.group S.setup (accepted S list) datagram ≡ Ok opens → IsMade config pasts datagram
   took-made list group now datagram is on opens told hit has e =
       let G = plain S list in

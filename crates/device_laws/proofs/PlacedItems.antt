@@ -1,16 +1,18 @@
 -- What comes to a matched reader is what its writer answered, however many turns it had: the numbers of each datagram stand for places from its answer's on.
-use Rattle.std.proofs.Common.{◌≡◌, refl, sym, ap, ◌∙◌, subst, arith, ℕ, zero, suc, ◌+◌, ◌<◌, ◌≤◌, Bool, List, [], ◌∷◌, inl, inr, Option, Some, None, All, Contains}
-use Rattle.std.specs.Prelude.{false, ◌⊎◌, ◌==◌, slice_get, slice_index_or, Result, Ok, Err, if◌then◌else◌}
+use Rattle.std.proofs.Common.{◌≡◌, refl, sym, ap, ◌∙◌, subst, arith, ℕ, zero, suc, ◌+◌, ◌<◌, ◌≤◌, Bool, List, [], ◌∷◌, inl, inr, Option, Some, None, All, Contains, eq-eqb}
+use Rattle.std.specs.Prelude.{⊤, true, false, ◌⊎◌, ◌++◌, ◌==◌, slice_get, slice_index_or, Result, Ok, Err, if◌then◌else◌}
 use Rattle.std.proofs.lemmas.List.Elements.{All-nil, All-weaker}
 use Rattle.std.proofs.lemmas.Option.{get_or_from_slice_get, slice_get-get_or, slice_get_within}
 use Rattle.seq_number.specs.Numbers.{number_of_place, place_from}
 use Rattle.seq_number.proofs.NumberLaws.{place_from-number}
 use Rattle.dataset_meta.specs.Metas.{MetaData}
-use Rattle.pubsub_model.specs.declared.reading.Why.TheVariants.{NewToken, Timeout}
+use Rattle.pubsub_model.specs.declared.reading.Why.{Why}
+use Rattle.pubsub_model.specs.declared.reading.Why.TheVariants.{NewToken, Restarted, Timeout}
 use Rattle.pubsub_model.specs.Answers.{InSpan, IsAnswer}
 use Rattle.pubsub_model.specs.Cadence.{Answered, next_place}
 use Rattle.pubsub_model.specs.Frames.{Alive, Change, IsPlacedFrame, PlacedFrame, Whole, is_silent, place_of}
 use Rattle.pubsub_model.proofs.AnswerPlaces.{answers-span}
+use Rattle.pubsub_model.specs.Records.{Cut}
 use Rattle.message_guard.specs.Acceptance.{Accepted}
 use Rattle.config_tables.specs.declared.words.Layout.{Layout}
 use Rattle.config_tables.specs.declared.words.Layout.TheVariants as layouts
@@ -18,14 +20,14 @@ use Rattle.ps_config.specs.declared.parts.Config.{Config}
 use Rattle.ps_config.specs.declared.parts.GroupPart.{GroupPart}
 use Rattle.ps_config.specs.declared.parts.ReadGroupPart.{ReadGroupPart}
 use Rattle.ps_config.specs.Sound.{IsSound}
-use Rattle.reader_group.specs.Arrivals.{Mark, Way, accepted, arrivals_in, cut_on, runs_out, taken_in}
+use Rattle.reader_group.specs.Arrivals.{Arrived, Mark, Way, accepted, arrivals_in, cut_on, runs_out, taken_in}
 use Rattle.reader_group.specs.Members.{Seat, seat_at}
 use Rattle.reader_group.specs.Opening.{Opened, verdict}
 use Rattle.reader_group.specs.Payloads.{Piece, pieces}
 use Rattle.reader_group.specs.Plain.{Event, Expired, Got, Setting, Stopped, is_raised, stamp_by}
 use Rattle.reader_group.specs.Settings.{setting_by, setup_by}
 use Rattle.reader_group.specs.declared.refusal.Refusal.{Refusal}
-use Rattle.reader_group.proofs.KeptParts.{keep-parts}
+use Rattle.reader_group.proofs.KeptParts.{Keep, keep-parts}
 use Rattle.writer_group.specs.Payloads.{meta_at, writer_at}
 use Rattle.writer_group.specs.Turns.{GroupDeed, GroupTurn, HadGroupTurn, RefreshedWriter, answer_by, turn_datagrams, writer_past}
 use Rattle.group_laws.specs.Matching.{IsMatchedTo, ReadsFrames}
@@ -38,6 +40,15 @@ use Rattle.session_laws.proofs.HeldRows.Pieces.{opened-at, own-or-none}
 use Rattle.session_laws.proofs.Versions.Answering.{answer-now, answer-stays, refresh-same, spelled-now, spelled-stays, spelled_at}
 use Rattle.turn_laws.proofs.Contents.{AreSentMarks, AreSentPieces, IsSentChunk, IsSentFrame, IsSentPiece, Sending, marks-kept, piece-sent, pieces-stay}
 use Rattle.device_laws.specs.Placed.{ComesPlaced, placed_from}
+use Rattle.device_laws.proofs.SentSince.{AreSentSince, cut-since, none-since, since-kept}
+
+-- each datagram of these events that the read group took was made by a group; of those before them nothing is asked
+abbrev pub CameSince : Setting → Config → (ℕ → List GroupDeed) → List Event → List Event → Type 0
+CameSince setting config pasts [] before = ⊤
+CameSince setting config pasts (Got now on datagram ∷ more) before =
+    ((opened : Opened) → verdict setting.group setting.setup (accepted setting (more ++ before)) datagram ≡ Ok opened → IsMade config pasts datagram) × CameSince setting config pasts more before
+CameSince setting config pasts (Expired now ∷ more) before = CameSince setting config pasts more before
+CameSince setting config pasts (Stopped reader why ∷ more) before = CameSince setting config pasts more before
 
 -- a keep-alive tells of a place above some
 good-span : (first next : ℕ) (frame : PlacedFrame) → InSpan first next frame → IsPlacedFrame frame
@@ -94,7 +105,7 @@ module _ (laws : TurnLaws) (config : Config) (group : GroupPart) (readers : Read
 
   -- ---- what its writer sent, as one datagram has it
 
-  abbrev sending : (past : List GroupDeed) → AreTurns config group past → List (ℕ × ℕ) → Sending
+  abbrev pub sending : (past : List GroupDeed) → AreTurns config group past → List (ℕ × ℕ) → Sending
   sending past are sent = record { answered = answered_by group writer past; sent = λ token. sent; bytes = spelled_at config group writer past are }
 
   -- the datagram has parts of what was answered at the place of its number, and its numbers stand for places from one on
@@ -196,8 +207,8 @@ module _ (laws : TurnLaws) (config : Config) (group : GroupPart) (readers : Read
     pub turns : AreTurns config group (pasts index)
     turns = (are_pasts index group there).turns
 
-    abbrev Sent : List Mark → Type 0
-    Sent list = AreSentMarks (sending (pasts index) turns []) way list
+    abbrev pub its_sending : List (ℕ × ℕ) → Sending
+    its_sending sent = sending (pasts index) turns sent
 
     datagram-places : (pairs : Accepted) (datagram : List ℕ) (opened : Opened) → IsMade config pasts datagram → its_verdict pairs datagram ≡ Ok opened → HasPlaces (pasts index) turns opened
     datagram-places pairs datagram opened made e = on (own-or-none laws config group readers reader writer matched index pasts sound there are_pasts pairs datagram opened made e)
@@ -209,59 +220,97 @@ module _ (laws : TurnLaws) (config : Config) (group : GroupPart) (readers : Read
           from = 0;
           each = λ number own has. absurd (has-none (number, own) has);
           named = λ number own has. absurd (has-none (number, own) has);
-          parts = let s = sending (pasts index) turns [] in
+          parts = let s = its_sending [] in
               subst (All (IsSentPiece s seat.meta opened.pass.token opened.pass.number)) (sym empty) (All-nil (IsSentPiece s seat.meta opened.pass.token opened.pass.number));
         }
 
-    -- a list that goes on with a datagram
-    record GoesOn (now : ℕ) (enabled : Bool) (pairs : Accepted) (before : List Mark) (answer : Result Opened Refusal) : Type 0 where
-      from : ℕ
-      sent : Sent (taken_in setting (placed_from way from) now enabled pairs before answer)
+    -- what such parts and cuts keep of a list
+    pub record Keeping (Sent : List Mark → Type 0) : Type 0 where
+      pub parts : (sent : List (ℕ × ℕ)) (from token number : ℕ) → ((own : ℕ) → Contains sent (number, own) → place_from from (number_of_place own) ≡ own) → (now : ℕ) (stamp : Option ℕ)
+          → Keep Sent (IsSentFrame (its_sending sent) way.seat.meta token number) (IsSentChunk (its_sending sent) way.seat.meta token number) (placed_from way from) (place_from from) now stamp
+      pub cuts : (b : Bool) (why : Why) (list : List Mark) → Sent list → Sent (cut_on b why list)
 
-    goes-on : (now : ℕ) (enabled : Bool) (pairs : Accepted) (before : List Mark) (answer : Result Opened Refusal) → ((opened : Opened) → answer ≡ Ok opened → HasPlaces (pasts index) turns opened) → Sent before
-        → GoesOn now enabled pairs before answer
-    goes-on now enabled pairs before (Err refusal) has h = record { from = 0; sent = h }
-    goes-on now enabled pairs before (Ok opened) has h =
-        let places = has opened refl in
-        let s = sending (pasts index) turns places.sent in
-        let placed = placed_from way places.from in
-        let token = opened.pass.token in
-        let number = opened.pass.number in
-        let stamp = stamp_by setting.setup.mode number in
-        let parts : AreSentPieces s way.seat opened = subst (λ (x : Seat). AreSentPieces s x opened) (sym own_seat) places.parts in
-        record {
-          from = places.from;
-          sent = keep-parts (AreSentMarks s placed) (IsSentFrame s way.seat.meta token number) (IsSentChunk s way.seat.meta token number) placed (place_from places.from) now stamp
-              (marks-kept s placed token number (λ own in_sent. places.named number own in_sent) now stamp)
-              (if enabled then pieces way.seat.part opened.payload else []) (cut_on (is_raised setting pairs opened) NewToken before)
-              (all-on (IsSentPiece s way.seat.meta token number) enabled (pieces way.seat.part opened.payload) parts)
-              (sent-cut way.seat.part.numbering way.seat.meta s.answered s.bytes (is_raised setting pairs opened) NewToken before h);
-        }
+    pub all-kept : Keeping (AreSentMarks (its_sending []) way)
+    all-kept = record {
+      parts = λ sent from token number named now stamp. marks-kept (its_sending sent) (placed_from way from) token number named now stamp;
+      cuts = λ b why list h. let s = its_sending [] in sent-cut way.seat.part.numbering way.seat.meta s.answered s.bytes b why list h;
+    }
 
-    pub record IsPlacedList (events : List Event) : Type 0 where
-      pub list : List Mark
-      pub placed : ComesPlaced setting way events list
-      pub sent : Sent list
+    module _ (Sent : List Mark → Type 0) (keeps : Keeping Sent) where
+      -- a list that goes on with a datagram
+      record GoesOn (now : ℕ) (enabled : Bool) (pairs : Accepted) (before : List Mark) (answer : Result Opened Refusal) : Type 0 where
+        from : ℕ
+        sent : Sent (taken_in setting (placed_from way from) now enabled pairs before answer)
 
-    pub placed-list : (events : List Event) → CameAsMade setting config pasts events → IsPlacedList events
+      goes-on : (now : ℕ) (enabled : Bool) (pairs : Accepted) (before : List Mark) (answer : Result Opened Refusal) → ((opened : Opened) → answer ≡ Ok opened → HasPlaces (pasts index) turns opened) → Sent before
+          → GoesOn now enabled pairs before answer
+      goes-on now enabled pairs before (Err refusal) has h = record { from = 0; sent = h }
+      goes-on now enabled pairs before (Ok opened) has h =
+          let places = has opened refl in
+          let s = its_sending places.sent in
+          let token = opened.pass.token in
+          let number = opened.pass.number in
+          let stamp = stamp_by setting.setup.mode number in
+          let parts : AreSentPieces s way.seat opened = subst (λ (x : Seat). AreSentPieces s x opened) (sym own_seat) places.parts in
+          record {
+            from = places.from;
+            sent = keep-parts Sent (IsSentFrame s way.seat.meta token number) (IsSentChunk s way.seat.meta token number) (placed_from way places.from) (place_from places.from) now stamp
+                (keeps.parts places.sent places.from token number (λ own in_sent. places.named number own in_sent) now stamp)
+                (if enabled then pieces way.seat.part opened.payload else []) (cut_on (is_raised setting pairs opened) NewToken before)
+                (all-on (IsSentPiece s way.seat.meta token number) enabled (pieces way.seat.part opened.payload) parts)
+                (keeps.cuts (is_raised setting pairs opened) NewToken before h);
+          }
+
+      pub record IsPlacedList (events : List Event) : Type 0 where
+        pub list : List Mark
+        pub placed : ComesPlaced setting way events list
+        pub sent : Sent list
+
+      pub got-list : (now : ℕ) (on : List Bool) (datagram : List ℕ) (before : List Event)
+          → ((opened : Opened) → verdict setting.group setting.setup (accepted setting before) datagram ≡ Ok opened → IsMade config pasts datagram) → IsPlacedList before → IsPlacedList (Got now on datagram ∷ before)
+      got-list now on datagram before made h =
+          let pairs = accepted setting before in
+          let enabled = slice_index_or on way.index false in
+          let answer = verdict setting.group setting.setup pairs datagram in
+          let more = goes-on now enabled pairs h.list answer (λ opened e. datagram-places pairs datagram opened (made opened e) e) h.sent in
+          record { list = taken_in setting (placed_from way more.from) now enabled pairs h.list answer; placed = (h.list, more.from, h.placed, refl); sent = more.sent }
+
+      pub expired-list : (now : ℕ) (before : List Event) → IsPlacedList before → IsPlacedList (Expired now ∷ before)
+      expired-list now before h =
+          let runs = runs_out way now (arrivals_in h.list) in record { list = cut_on runs Timeout h.list; placed = (h.list, h.placed, refl); sent = keeps.cuts runs Timeout h.list h.sent }
+
+      pub stopped-list : (other : ℕ) (why : Why) (before : List Event) → IsPlacedList before → IsPlacedList (Stopped other why ∷ before)
+      stopped-list other why before h = record { list = cut_on (other == way.index) why h.list; placed = (h.list, h.placed, refl); sent = keeps.cuts (other == way.index) why h.list h.sent }
+
+    pub placed-list : (events : List Event) → CameAsMade setting config pasts events → IsPlacedList (AreSentMarks (its_sending []) way) all-kept events
     placed-list [] came = record { list = []; placed = refl; sent = record { items = tt; chunks = tt } }
-    placed-list (Got now on datagram ∷ before) came =
-        let h = placed-list before came.1 in
-        let pairs = accepted setting before in
-        let enabled = slice_index_or on way.index false in
-        let answer = verdict setting.group setting.setup pairs datagram in
-        let more = goes-on now enabled pairs h.list answer (λ opened e. datagram-places pairs datagram opened (came.0 opened e) e) h.sent in
-        record { list = taken_in setting (placed_from way more.from) now enabled pairs h.list answer; placed = (h.list, more.from, h.placed, refl); sent = more.sent }
-    placed-list (Expired now ∷ before) came =
-        let h = placed-list before came in
-        let runs = runs_out way now (arrivals_in h.list) in
-        let s = sending (pasts index) turns [] in
-        record { list = cut_on runs Timeout h.list; placed = (h.list, h.placed, refl); sent = sent-cut way.seat.part.numbering way.seat.meta s.answered s.bytes runs Timeout h.list h.sent }
-    placed-list (Stopped other why ∷ before) came =
-        let h = placed-list before came in
-        let s = sending (pasts index) turns [] in
+    placed-list (Got now on datagram ∷ before) came = got-list (AreSentMarks (its_sending []) way) all-kept now on datagram before came.0 (placed-list before came.1)
+    placed-list (Expired now ∷ before) came = expired-list (AreSentMarks (its_sending []) way) all-kept now before (placed-list before came)
+    placed-list (Stopped other why ∷ before) came = stopped-list (AreSentMarks (its_sending []) way) all-kept other why before (placed-list before came)
+
+    -- ---- since a cut
+
+    abbrev pub SentSince : List Mark → Type 0
+    SentSince list = AreSentSince way.seat.part.numbering way.seat.meta (answered_by group writer (pasts index)) (spelled_at config group writer (pasts index) turns) list
+
+    pub all-since : Keeping SentSince
+    all-since = record {
+      parts = λ sent from token number named now stamp. since-kept (its_sending sent) (placed_from way from) token number named now stamp;
+      cuts = cut-since way.seat.part.numbering way.seat.meta (answered_by group writer (pasts index)) (spelled_at config group writer (pasts index) turns);
+    }
+
+    pub since-list : (more before : List Event) → CameSince setting config pasts more before → IsPlacedList SentSince all-since before → IsPlacedList SentSince all-since (more ++ before)
+    since-list [] before came h = h
+    since-list (Got now on datagram ∷ more) before came h = got-list SentSince all-since now on datagram (more ++ before) came.0 (since-list more before came.1 h)
+    since-list (Expired now ∷ more) before came h = expired-list SentSince all-since now (more ++ before) (since-list more before came h)
+    since-list (Stopped other why ∷ more) before came h = stopped-list SentSince all-since other why (more ++ before) (since-list more before came h)
+
+    -- the reader is reset
+    pub reset-list : (before : List Event) (earlier : List Mark) → ComesPlaced setting way before earlier → IsPlacedList SentSince all-since (Stopped way.index Restarted ∷ before)
+    reset-list before earlier placed =
+        let same : (way.index == way.index) ≡ true = eq-eqb way.index way.index refl in
         record {
-          list = cut_on (other == way.index) why h.list;
-          placed = (h.list, h.placed, refl);
-          sent = sent-cut way.seat.part.numbering way.seat.meta s.answered s.bytes (other == way.index) why h.list h.sent;
+          list = Arrived (Cut Restarted) ∷ earlier;
+          placed = (earlier, placed, ap (λ (b : Bool). cut_on b Restarted earlier) (sym same));
+          sent = none-since way.seat.part.numbering way.seat.meta (answered_by group writer (pasts index)) (spelled_at config group writer (pasts index) turns) earlier;
         }

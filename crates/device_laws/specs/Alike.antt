@@ -14,8 +14,8 @@ abbrev pub unnamed : Seat → Seat
 unnamed seat = record seat { part = record seat.part { name = []; dataset = 0 } }
 
 -- Of both read groups the reader with index i reads alike. They judge datagrams alike, and have the same keys, mode and first block, whichever index their key
--- group has. The two readers have the same writer's id, timeout, numbering and slot, and data sets of the same name, fields and version, whichever index these have.
--- Of their other readers nothing is asked.
+-- group has. The two readers have the same writer's id, timeout, numbering and slot, and data sets of the same name, fields and version, whichever index these
+-- have. Of their other readers nothing is asked.
 pub record ReadsAlike (i : ℕ) (one other : Setting) : Type 0 where
   pub group : judging one.group ≡ judging other.group
   pub setup : one.setup ≡ other.setup

@@ -36,9 +36,9 @@ pub record MeetsSecured (text : List ℕ) (r i g w k : ℕ) (run : IsSmallRun te
   pub ends : publisher_in publisher ≡ run.came
   pub reads : subscriber_in subscriber ≡ run.heard
 
--- What the clauses of these calls say. Both are opened with the text, and a field is set. The key group with index k is renewed with a ring at the publisher, and the
--- read group with index r with the same at the subscriber. A moment brings the publisher a datagram, which is lost. Another brings one, which comes to the read
--- group. The two rings owe what the laws ask: a token has the same keys in both, as long as the policy says.
+-- What the clauses of these calls say. Both are opened with the text, and a field is set. The key group with index k is renewed with a ring at the publisher,
+-- and the read group with index r with the same at the subscriber. A moment brings the publisher a datagram, which is lost. Another brings one, which comes to
+-- the read group. The two rings owe what the laws ask: a token has the same keys in both, as long as the policy says.
 pub record IsRenewedRun (text : List ℕ) (r k : ℕ) : Type 0 where
   pub first : Publisher
   pub opened : IsOpenPublisher text first

@@ -12,21 +12,22 @@ use Rattle.session_laws.specs.Plays.{IsAnswerBy, ItemsAre, Play, its_answers, it
 abbrev pub placed_from : Way → ℕ → Way
 placed_from way from = record way { place = λ token number. place_from from }
 
--- The list is *Arrivals*, with the chunks, over what befell the read group, where the numbers of each datagram stand for places from some place on. The places of the
--- way itself aren't read.
+-- The list is *Arrivals*, with the chunks, over what befell the read group, where the numbers of each datagram stand for places from some place on. The places
+-- of the way itself aren't read.
 abbrev pub ComesPlaced : Setting → Way → List Event → List Mark → Type 0
 ComesPlaced setting way [] list = list ≡ []
 ComesPlaced setting way (Got moment on datagram ∷ before) list =
     let pairs = accepted setting before in
     (earlier : List Mark) × (from : ℕ) × ComesPlaced setting way before earlier
-    × (list ≡ taken_in setting (placed_from way from) moment (slice_index_or on way.index false) pairs earlier (verdict setting.group setting.setup pairs datagram))
+    × (list ≡ (let answer = verdict setting.group setting.setup pairs datagram in
+      taken_in setting (placed_from way from) moment (slice_index_or on way.index false) pairs earlier answer))
 ComesPlaced setting way (Expired moment ∷ before) list =
     (earlier : List Mark) × ComesPlaced setting way before earlier × (list ≡ cut_on (runs_out way moment (arrivals_in earlier)) Timeout earlier)
 ComesPlaced setting way (Stopped reader why ∷ before) list =
     (earlier : List Mark) × ComesPlaced setting way before earlier × (list ≡ cut_on (reader == way.index) why earlier)
 
--- The list is what came to the reader of a play, so placed, and each item of it is an answer of the writer, cut to the reader's fields: with its place, or with no
--- numbering without.
+-- The list is what came to the reader of a play, so placed, and each item of it is an answer of the writer, cut to the reader's fields: with its place, or
+-- with no numbering without.
 pub record ComesAnswered (p : Play) (list : List Mark) : Type 0 where
   pub placed : ComesPlaced (its_setting p) (its_way p) p.events list
   pub items : ItemsAre (IsAnswerBy (its_way p).seat.part.numbering (its_meta p) (its_answers p)) (arrivals_in list)

@@ -34,8 +34,8 @@ HasGiven keygroup first (step ∷ before) pair = GivesAt keygroup first step bef
 
 -- ---- a second life
 
--- In the later life the key group goes on (IsBehind) after calls that gave it no number yet, with these key sets and behind so many numbers: under the token of the
--- last set whose moment has come. That token and number is no lower than what `standing` told at the end of the earlier life.
+-- In the later life the key group goes on (IsBehind) after calls that gave it no number yet, with these key sets and behind so many numbers: under the token
+-- of the last set whose moment has come. That token and number is no lower than what `standing` told at the end of the earlier life.
 pub record GoesOnAfter (keygroup : ℕ) (earlier later : PublisherLife) : Type 0 where
   pub since : List PublisherStep
   pub before : List PublisherStep

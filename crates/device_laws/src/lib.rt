@@ -14,7 +14,10 @@ pub use laws::{
     a_subscriber_reads_what_came, each_call_is_a_step_of_a_life,
 };
 pub use near::readers_hold_whole_rows_where_places_are_near;
-pub use restarts::no_number_is_given_again_after_a_restart;
+pub use restarts::{
+    no_number_is_given_again_after_a_restart,
+    readers_hold_whole_rows_of_the_life_since_their_last_reset,
+};
 pub use run::{Pair, run_once};
 pub use signed::{
     each_turn_of_a_publisher_has_its_sender,
