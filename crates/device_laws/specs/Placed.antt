@@ -20,7 +20,7 @@ ComesPlaced setting way (Got moment on datagram ∷ before) list =
     let pairs = accepted setting before in
     (earlier : List Mark) × (from : ℕ) × ComesPlaced setting way before earlier
     × (list ≡ (let answer = verdict setting.group setting.setup pairs datagram in
-      taken_in setting (placed_from way from) moment (slice_index_or on way.index false) pairs earlier answer))
+    taken_in setting (placed_from way from) moment (slice_index_or on way.index false) pairs earlier answer))
 ComesPlaced setting way (Expired moment ∷ before) list =
     (earlier : List Mark) × ComesPlaced setting way before earlier × (list ≡ cut_on (runs_out way moment (arrivals_in earlier)) Timeout earlier)
 ComesPlaced setting way (Stopped reader why ∷ before) list =
