@@ -1,7 +1,6 @@
 -- Readers that read alike: the same is kept for them, and the same comes to them.
 use Rattle.std.proofs.Common.{◌≡◌, refl, sym, ap, ◌∙◌, subst, arith, ℕ, ◌+◌, ◌<◌, Bool, true, false, List, [], ◌∷◌, length}
 use Rattle.std.specs.Prelude.{◌==◌, fold, slice_index_or, Result, Ok, Err}
-use Rattle.pubsub_model.specs.declared.reading.Why.{Why}
 use Rattle.pubsub_model.specs.declared.reading.Why.TheVariants.{NewToken, Timeout}
 use Rattle.frame_codec.specs.declared.fault.FrameFault.{FrameFault}
 use Rattle.frame_codec.specs.Frames.{Frame}
@@ -21,7 +20,6 @@ use Rattle.uadp_header.specs.Headers.{HeaderValue}
 use Rattle.uadp_header.specs.Layout.{header_at}
 use Rattle.ps_config.specs.declared.parts.Config.{Config}
 use Rattle.ps_config.specs.declared.parts.ReadGroupPart.{ReadGroupPart}
-use Rattle.ps_config.specs.declared.parts.ReaderPart.{ReaderPart}
 use Rattle.reader_group.specs.declared.receipt.Receipt.{Receipt}
 use Rattle.reader_group.specs.declared.refusal.Refusal.{Refusal}
 use Rattle.reader_group.specs.Arrivals.{Mark, Way, accepted, accepted_with, arrivals_in, cut_on, marks, runs_out, taken_in}
@@ -34,7 +32,7 @@ use Rattle.reader_group.specs.Settings.{seat_in, setting_by}
 use Rattle.reader_group.specs.SlotFrames.{slot_frame_at}
 use Rattle.reader_group.proofs.Accepting.{plain-accepted}
 use Rattle.reader_group.proofs.Each.{each-at, fed_member-at}
-use Rattle.session_laws.specs.Pasts.{CameAsMade, IsMade}
+use Rattle.session_laws.specs.Pasts.{CameAsMade}
 use Rattle.session_laws.specs.Readers.{IsMadeFor, Making}
 use Rattle.writer_group.specs.Turns.{GroupDeed}
 use Rattle.std.proofs.lemmas.List.{get_or-map, length-map}

@@ -1,18 +1,13 @@
 -- Larger lives of two devices meet the premises of their laws.
-use Rattle.std.proofs.Common.{◌≡◌, refl, sym, ap, ◌∙◌, subst, arith, ℕ, ◌<◌, List, [], ◌∷◌, ◌++◌, length, map, get_or, inl, inr, Some, All, Contains}
-use Rattle.std.specs.Prelude.{Result, Option}
+use Rattle.std.proofs.Common.{◌≡◌, refl, sym, ap, ◌∙◌, subst, arith, ℕ, ◌<◌, List, [], ◌∷◌, ◌++◌, length, map, get_or, inl, Some, All, Contains}
 use Rattle.std.proofs.lemmas.List.{get_or-map}
 use Rattle.std.proofs.lemmas.List.Elements.{All-contains_itself, All-weaker, Contains-append_left, Contains-append_right}
 use Rattle.group_keys.specs.declared.key_set.KeySet.{KeySet}
-use Rattle.message_guard.specs.Guards.{Setup}
 use Rattle.message_guard.specs.Protection.{keys_in}
 use Rattle.ps_config.specs.declared.parts.Config.{Config}
 use Rattle.reader_group.specs.Members.{MemberValue, Seat, new_member, no_seat}
-use Rattle.reader_group.specs.Plain.{Setting, member_at, opening}
-use Rattle.reader_group.specs.Settings.{group_at as read_group_at, keygroup_at, setting_by, setting_of, setup_by}
-use Rattle.reader_group.specs.declared.refusal.Refusal.{Refusal}
-use Rattle.reader_group.specs.declared.refusal.Taken.{Taken}
-use Rattle.reader_group.proofs.Made.{ring-keys}
+use Rattle.reader_group.specs.Plain.{member_at, opening}
+use Rattle.reader_group.specs.Settings.{group_at as read_group_at, setting_by, setting_of}
 use Rattle.writer_group.specs.Parts.{group_at}
 use Rattle.writer_group.specs.Standing.{datagrams_in}
 use Rattle.group_laws.specs.Matching.{IsMatchedTo}
@@ -20,7 +15,6 @@ use Rattle.device.specs.declared.asked.Next.TheVariants.{Datagram}
 use Rattle.device.specs.declared.publisher.Publisher.{Publisher}
 use Rattle.device.specs.Coming.{HasCome, turned_to}
 use Rattle.device_laws.specs.Alike.{ReadsAlike}
-use Rattle.device_laws.specs.Devices.{member_in}
 use Rattle.device_laws.specs.Larger.{IsRenewedRun, MeetsRenewed, MeetsSecured, sets_of}
 use Rattle.device_laws.specs.Publishing.{CameTo, HandedOver, HasOffered, IsPublisherLife, PublisherLife, PublisherStep, Renewed, SetField, did_as}
 use Rattle.device_laws.specs.Ringed.{AllKeysAreAmong, AreKeysAmong, IsRingedPair}

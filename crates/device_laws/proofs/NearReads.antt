@@ -11,13 +11,12 @@ use Rattle.ps_config.specs.declared.parts.ReadGroupPart.{ReadGroupPart}
 use Rattle.reader_group.specs.Agreeing.{MemberIs}
 use Rattle.reader_group.specs.Arrivals.{Mark, arrivals_in}
 use Rattle.reader_group.specs.Members.{no_seat, seat_at}
-use Rattle.reader_group.specs.Plain.{Setting}
 use Rattle.reader_group.proofs.Answered.{StepKeeps}
 use Rattle.writer_group.specs.Parts.{group_at, no_group}
 use Rattle.writer_group.specs.Payloads.{meta_at}
 use Rattle.writer_group.specs.Turns.{writer_past}
 use Rattle.session_laws.specs.Below.{RingLaw, TurnLaws}
-use Rattle.session_laws.specs.Pasts.{IsPast, settings_at}
+use Rattle.session_laws.specs.Pasts.{settings_at}
 use Rattle.session_laws.specs.Plays.{Play, its_setting, its_way}
 use Rattle.device.specs.Readings.{IsReaderAt}
 use Rattle.device_laws.specs.Devices.{ArePaired, HoldsWhole, IsCounted, member_in, play_of}

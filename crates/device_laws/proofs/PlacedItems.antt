@@ -1,5 +1,5 @@
 -- What comes to a matched reader is what its writer answered, however many turns it had: the numbers of each datagram stand for places from its answer's on.
-use Rattle.std.proofs.Common.{◌≡◌, refl, sym, ap, ◌∙◌, subst, arith, ℕ, zero, suc, ◌+◌, ◌<◌, ◌≤◌, Bool, List, [], ◌∷◌, inl, inr, Option, Some, None, All, Contains, eq-eqb}
+use Rattle.std.proofs.Common.{◌≡◌, refl, sym, ap, ◌∙◌, subst, arith, ℕ, zero, suc, Bool, List, [], ◌∷◌, inl, inr, Option, Some, None, All, Contains, eq-eqb}
 use Rattle.std.specs.Prelude.{⊤, true, false, ◌⊎◌, ◌++◌, ◌==◌, slice_get, slice_index_or, Result, Ok, Err, if◌then◌else◌}
 use Rattle.std.proofs.lemmas.List.Elements.{All-nil, All-weaker}
 use Rattle.std.proofs.lemmas.Option.{get_or_from_slice_get, slice_get-get_or, slice_get_within}
@@ -9,8 +9,8 @@ use Rattle.dataset_meta.specs.Metas.{MetaData}
 use Rattle.pubsub_model.specs.declared.reading.Why.{Why}
 use Rattle.pubsub_model.specs.declared.reading.Why.TheVariants.{NewToken, Restarted, Timeout}
 use Rattle.pubsub_model.specs.Answers.{InSpan, IsAnswer}
-use Rattle.pubsub_model.specs.Cadence.{Answered, next_place}
-use Rattle.pubsub_model.specs.Frames.{Alive, Change, IsPlacedFrame, PlacedFrame, Whole, is_silent, place_of}
+use Rattle.pubsub_model.specs.Cadence.{Answered}
+use Rattle.pubsub_model.specs.Frames.{Alive, Change, IsPlacedFrame, PlacedFrame, Whole, place_of}
 use Rattle.pubsub_model.proofs.AnswerPlaces.{answers-span}
 use Rattle.pubsub_model.specs.Records.{Cut}
 use Rattle.message_guard.specs.Acceptance.{Accepted}
@@ -23,12 +23,12 @@ use Rattle.ps_config.specs.Sound.{IsSound}
 use Rattle.reader_group.specs.Arrivals.{Arrived, Mark, Way, accepted, arrivals_in, cut_on, runs_out, taken_in}
 use Rattle.reader_group.specs.Members.{Seat, seat_at}
 use Rattle.reader_group.specs.Opening.{Opened, verdict}
-use Rattle.reader_group.specs.Payloads.{Piece, pieces}
+use Rattle.reader_group.specs.Payloads.{pieces}
 use Rattle.reader_group.specs.Plain.{Event, Expired, Got, Setting, Stopped, is_raised, stamp_by}
-use Rattle.reader_group.specs.Settings.{setting_by, setup_by}
+use Rattle.reader_group.specs.Settings.{setting_by}
 use Rattle.reader_group.specs.declared.refusal.Refusal.{Refusal}
 use Rattle.reader_group.proofs.KeptParts.{Keep, keep-parts}
-use Rattle.writer_group.specs.Payloads.{meta_at, writer_at}
+use Rattle.writer_group.specs.Payloads.{meta_at}
 use Rattle.writer_group.specs.Turns.{GroupDeed, GroupTurn, HadGroupTurn, RefreshedWriter, answer_by, turn_datagrams, writer_past}
 use Rattle.group_laws.specs.Matching.{IsMatchedTo, ReadsFrames}
 use Rattle.group_laws.specs.TurnOpened.{turn_opened}

@@ -18,7 +18,7 @@ use Rattle.message_guard.specs.Acceptance.{Accepted}
 use Rattle.config_tables.specs.declared.words.NumberingWord.{NumberingWord}
 use Rattle.config_tables.specs.declared.words.NumberingWord.TheVariants as words
 use Rattle.reader_group.specs.Agreeing.{AreRestarts}
-use Rattle.reader_group.specs.Arrivals.{Arrived, Mark, Way, accepted, arrivals_in, clears, cut_on, ends_readiness, goes_by_numbers, is_late, is_numbered, is_ready, is_timeout, piece_on, runs_out, taken_in, told_of}
+use Rattle.reader_group.specs.Arrivals.{Arrived, Mark, Way, arrivals_in, clears, cut_on, ends_readiness, goes_by_numbers, is_late, is_numbered, is_ready, is_timeout, piece_on, runs_out, taken_in, told_of}
 use Rattle.reader_group.specs.Members.{MemberValue, Seat, cut_member, expired, new_member, no_seat, numbering_of, seat_at}
 use Rattle.reader_group.specs.Opening.{Opened, verdict}
 use Rattle.reader_group.specs.Payloads.{Piece, pieces}

@@ -1,5 +1,5 @@
 -- No token and number is given twice in a life of a publisher, nor over two lives.
-use Rattle.std.proofs.Common.{◌≡◌, ◌≢◌, refl, sym, ap, ◌∙◌, subst, arith, ℕ, zero, suc, ◌<◌, ◌≤◌, Bool, true, false, nat_lt, List, [], ◌∷◌, get_or, inl, inr, Option, Some, None}
+use Rattle.std.proofs.Common.{◌≡◌, ◌≢◌, refl, sym, ap, ◌∙◌, subst, arith, ℕ, zero, suc, ◌<◌, Bool, true, false, nat_lt, List, [], ◌∷◌, get_or, inl, inr, Option, Some, None}
 use Rattle.std.specs.Prelude.{◌⊎◌, ◌++◌, option_map, if◌then◌else◌}
 use Rattle.std.proofs.lemmas.Bool.Decides.{nat_tests}
 use Rattle.group_keys.specs.KeySets.{current}
@@ -11,7 +11,6 @@ use Rattle.ps_config.specs.declared.parts.KeyGroupPart.{KeyGroupPart}
 use Rattle.reader_group.specs.Settings.{no_keygroup}
 use Rattle.device.specs.declared.publisher.Publisher.{Publisher}
 use Rattle.device.specs.Calls.{AreCalled, Call, FallBackNever, Gives, IsCalled, IsGiven}
-use Rattle.device.specs.Coming.{ComesTo}
 use Rattle.device.specs.Sides.{IsNoLess, IsNoLower, IsResumed}
 use Rattle.device.proofs.Sending.{no_sender}
 use Rattle.device_laws.specs.Publishing.{ArePublisherSteps, CameTo, HandedOver, IsPublisherCall, PublisherCall, PublisherLife, PublisherStep, Refused, Renewed, Resumed, SetField, SetStatus, SetWord, Switched, Waited, publisher_after, publisher_in}

@@ -1,6 +1,6 @@
 -- A reader that was reset holds what its read group took since.
-use Rattle.std.proofs.Common.{◌≡◌, ◌≢◌, refl, sym, ap, ◌∙◌, subst, ℕ, ◌<◌, Bool, true, false, List, [], ◌∷◌, ◌++◌, length, inl, inr, Option, Some, None, eq-eqb}
-use Rattle.std.specs.Prelude.{◌⊎◌, ◌==◌, ◌&&◌, not, slice_get, Result, Ok}
+use Rattle.std.proofs.Common.{◌≡◌, refl, sym, ap, ◌∙◌, subst, ℕ, ◌<◌, Bool, true, false, List, [], ◌∷◌, ◌++◌, length, inl, inr, Some, eq-eqb}
+use Rattle.std.specs.Prelude.{◌==◌, ◌&&◌, not, slice_get, Ok}
 use Rattle.std.specs.List.{cons_option}
 use Rattle.std.proofs.lemmas.Option.{slice_get-get_or}
 use Rattle.dataset_meta.specs.DataValues.{DataValue}
@@ -19,8 +19,6 @@ use Rattle.reader_group.specs.Opening.{Opened, verdict}
 use Rattle.reader_group.specs.Plain as befalls
 use Rattle.reader_group.specs.Plain.{Event, Setting, member_at, plain}
 use Rattle.reader_group.specs.Settings.{setting_by, setting_of}
-use Rattle.reader_group.specs.declared.refusal.Refusal.{Refusal}
-use Rattle.reader_group.specs.declared.refusal.Taken.{Taken}
 use Rattle.reader_group.proofs.Answered.{StepKeeps}
 use Rattle.writer_group.specs.Parts.{group_at, no_group}
 use Rattle.writer_group.specs.Payloads.{meta_at}
