@@ -68,10 +68,10 @@ module _ (text : List ℕ) (r i g w k : ℕ) (run : IsRenewedRun text r k) (ther
   first_steps = record { call = Renewed k run.sets; after = run.renewed } ∷ record { call = SetField run.index run.field run.value run.status; after = run.set } ∷ []
 
   came-first : HasCome run.now Datagram run.renewed run.came
-  came-first = run.comes.came (omega (arith, renewed-none))
+  came-first = run.comes.comes.came (omega (arith, renewed-none))
 
   came-then : HasCome run.later Datagram run.lost run.again
-  came-then = run.comes_again.came run.none_waits
+  came-then = run.comes_again.comes.came run.none_waits
 
   abbrev lost_steps : List PublisherStep
   lost_steps =
@@ -89,13 +89,13 @@ module _ (text : List ℕ) (r i g w k : ℕ) (run : IsRenewedRun text r k) (ther
     opened = run.opened;
     steps_are = (
       run.again_is,
-      record { none_waited = run.none_waits; came = came-then; did_is = refl },
+      record { none_waited = run.none_waits; came = came-then; store = run.comes_again.store; did_is = refl },
       (
         run.lost_is,
         (run.waits, run.lost_as),
         (
           run.came_is,
-          record { none_waited = omega (arith, renewed-none); came = came-first; did_is = refl },
+          record { none_waited = omega (arith, renewed-none); came = came-first; store = run.comes.store; did_is = refl },
           (run.renewed_is, run.was_renewed, (run.set_is, run.was_set, tt)),
         ),
       ),

@@ -17,7 +17,7 @@ use Rattle.writer_group.specs.Parts.{group_at, no_group}
 use Rattle.turn_laws.specs.Lives.{TokensNameKeys}
 use Rattle.device_laws.specs.Deeds.{AreUnresumed}
 use Rattle.device_laws.specs.Devices.{ArePaired}
-use Rattle.device_laws.specs.Publishing.{AreOwnRings, CameTo, HandedOver, KeepsRing, PublisherCall, PublisherLife, PublisherStep, Refused, Renewed, Resumed, SetField, SetStatus, SetWord, Switched, Waited, config_in}
+use Rattle.device_laws.specs.Publishing.{AreOwnRings, CameTo, HandedOver, KeepsRing, PublisherCall, PublisherLife, PublisherStep, Aside, Renewed, Resumed, SetField, SetStatus, SetWord, Switched, Waited, config_in}
 use Rattle.device_laws.specs.Pulled.{IsKnownBy}
 use Rattle.device_laws.specs.Ringed.{AllKeysAreAmong, AreKeysAmong, IsRingedPair, KeysAreAmong, RingIsAmong, RingsAreAmong}
 use Rattle.device_laws.specs.Subscribing as reads
@@ -50,7 +50,7 @@ one-among config k (Switched group writer on) keeps = tt
 one-among config k (Renewed keygroup sets) keeps = λ e.
     subst (λ (n : ℕ). All (Contains (own_sets config n)) sets) e (subst (All (Contains (own_sets config keygroup))) (sym (keeps no_keygroup)) (All-contains_itself (own_sets config keygroup)))
 one-among config k (Resumed keygroup now used sets) keeps = tt
-one-among config k Refused keeps = tt
+one-among config k Aside keeps = tt
 
 rings-among : (config : Config) (k : ℕ) (steps : List PublisherStep) → AreOwnRings config steps → RingsAreAmong k (own_sets config k) steps
 rings-among config k [] own = tt

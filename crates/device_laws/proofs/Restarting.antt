@@ -9,11 +9,14 @@ use Rattle.message_guard.specs.Protection.{keys_in}
 use Rattle.message_guard.specs.Senders.{SenderState, turned, turned_by}
 use Rattle.ps_config.specs.declared.parts.KeyGroupPart.{KeyGroupPart}
 use Rattle.reader_group.specs.Settings.{no_keygroup}
+use Rattle.device.specs.declared.asked.Next.{Next}
+use Rattle.device.specs.declared.looking.Looked.{Looked}
 use Rattle.device.specs.declared.publisher.Publisher.{Publisher}
+use Rattle.device.specs.Calls as numbers
 use Rattle.device.specs.Calls.{AreCalled, Call, FallBackNever, Gives, IsCalled, IsGiven}
 use Rattle.device.specs.Sides.{IsNoLess, IsNoLower, IsResumed}
 use Rattle.device.proofs.Sending.{no_sender}
-use Rattle.device_laws.specs.Publishing.{ArePublisherSteps, CameTo, HandedOver, IsPublisherCall, PublisherCall, PublisherLife, PublisherStep, Refused, Renewed, Resumed, SetField, SetStatus, SetWord, Switched, Waited, publisher_after, publisher_in}
+use Rattle.device_laws.specs.Publishing.{ArePublisherSteps, ComesBy, CameTo, HandedOver, IsPublisherCall, PublisherCall, PublisherLife, PublisherStep, Aside, Renewed, Resumed, SetField, SetStatus, SetWord, Switched, Waited, publisher_after, publisher_in}
 use Rattle.device_laws.specs.Restarts.{GivesAt, GoesOnAfter, HasGiven, numbers_of}
 
 -- what the law of `device` says
@@ -53,17 +56,16 @@ no-lower-same a = inr (refl, omega arith)
 
 -- ---- a call
 
-is-called : (call : PublisherCall) (old new : Publisher) → IsPublisherCall call old new → IsCalled (numbers_of call) old new
-is-called (SetField set field value status) old new has = ap (λ (p : Publisher). p.senders.items) has.rest
-is-called (SetWord set field kind word) old new has = ap (λ (p : Publisher). p.senders.items) has.rest
-is-called (SetStatus set field status) old new has = ap (λ (p : Publisher). p.senders.items) has.rest
-is-called (Waited now) old new has = ap (λ (p : Publisher). p.senders.items) has.1
-is-called (CameTo now next did) old new has = record { waited = λ waits. absurd (let none = has.none_waited in omega (arith, waits, none)); came = λ none. has.came }
-is-called HandedOver old new has = ap (λ (p : Publisher). p.senders.items) has.1
-is-called (Switched group writer on) old new has = ap (λ (p : Publisher). p.senders.items) has.rest
-is-called (Renewed keygroup sets) old new has = has
-is-called (Resumed keygroup now used sets) old new has = has
-is-called Refused old new has = ap (λ (p : Publisher). p.senders.items) has.rest
+came-called : (now : ℕ) (next : Next) (did : List Looked) (old new : Publisher) → ComesBy now next did old new → IsCalled (numbers.Came now next) old new
+came-called now next did old new has = record {
+  comes = record { waited = λ waits. absurd (let none = has.none_waited in omega (arith, waits, none)); came = λ none. has.came };
+  store = has.store;
+}
+
+-- where the senders stay
+stands-still : (k : ℕ) (old new : Publisher) → new.senders.items ≡ old.senders.items → IsNoLower (stand k old) (stand k new)
+stands-still k old new same =
+    subst (λ (senders : List SenderState). IsNoLower (stand k old) (stand_of (get_or senders k no_sender))) (sym same) (no-lower-same (stand k old))
 
 at-key : (old new : List SenderState) (k : ℕ) (d : SenderState) → FallBackNever old new → IsNoLower (stand_of (get_or old k d)) (stand_of (get_or new k d))
 at-key [] [] k d never = no-lower-same (stand_of d)
@@ -83,7 +85,7 @@ given-after k HandedOver old new pair gives = absurd gives
 given-after k (Switched group writer on) old new pair gives = absurd gives
 given-after k (Renewed keygroup sets) old new pair gives = absurd gives
 given-after k (Resumed keygroup now used sets) old new pair gives = absurd gives
-given-after k Refused old new pair gives = absurd gives
+given-after k Aside old new pair gives = absurd gives
 
 turned-set : (s : SenderState) (set : KeySet) (b : Bool) → nat_lt s.keys.token set.token ≡ b → IsNoLess s (if b then record s { keys = keys_in set; used = 0; fronted = None } else s)
 turned-set s set true higher = inl (grind (arith, nat_tests))
@@ -112,13 +114,25 @@ given-before k HandedOver old new pair gives = absurd gives
 given-before k (Switched group writer on) old new pair gives = absurd gives
 given-before k (Renewed keygroup sets) old new pair gives = absurd gives
 given-before k (Resumed keygroup now used sets) old new pair gives = absurd gives
-given-before k Refused old new pair gives = absurd gives
+given-before k Aside old new pair gives = absurd gives
 
 -- ---- a life
 
 module _ (falls : FallLaw) (k : ℕ) (first : Publisher) where
+  called : (call : Call) (old new : Publisher) → IsCalled call old new → IsNoLower (stand k old) (stand k new)
+  called call old new is = at-key old.senders.items new.senders.items k no_sender (falls (call ∷ []) old new (new, (is, refl)))
+
   one-call : (call : PublisherCall) (old new : Publisher) → IsPublisherCall call old new → IsNoLower (stand k old) (stand k new)
-  one-call call old new has = at-key old.senders.items new.senders.items k no_sender (falls (numbers_of call ∷ []) old new (new, (is-called call old new has, refl)))
+  one-call (SetField set field value status) old new has = stands-still k old new (ap (λ (p : Publisher). p.senders.items) has.rest)
+  one-call (SetWord set field kind word) old new has = stands-still k old new (ap (λ (p : Publisher). p.senders.items) has.rest)
+  one-call (SetStatus set field status) old new has = stands-still k old new (ap (λ (p : Publisher). p.senders.items) has.rest)
+  one-call (Waited now) old new has = stands-still k old new (ap (λ (p : Publisher). p.senders.items) has.1)
+  one-call (CameTo now next did) old new has = called (numbers.Came now next) old new (came-called now next did old new has)
+  one-call HandedOver old new has = stands-still k old new (ap (λ (p : Publisher). p.senders.items) has.1)
+  one-call (Switched group writer on) old new has = stands-still k old new (ap (λ (p : Publisher). p.senders.items) has.rest)
+  one-call (Renewed keygroup sets) old new has = called (numbers.Renewed keygroup sets) old new has
+  one-call (Resumed keygroup now used sets) old new has = called (numbers.Resumed keygroup now used sets) old new has
+  one-call Aside old new has = stands-still k old new (ap (λ (p : Publisher). p.senders.items) has.rest)
 
   -- it stands no lower than what was given
   pub given-stands : (steps : List PublisherStep) (pair : ℕ × ℕ) → ArePublisherSteps first steps → HasGiven k first steps pair → IsNoLower pair (stand k (publisher_after first steps))

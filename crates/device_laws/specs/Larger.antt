@@ -14,7 +14,7 @@ use Rattle.turn_laws.specs.Lives.{TokensNameKeys}
 use Rattle.device.specs.declared.asked.Next.TheVariants.{Datagram}
 use Rattle.device.specs.declared.publisher.Publisher.{Publisher}
 use Rattle.device.specs.declared.subscriber.Subscriber.{Subscriber}
-use Rattle.device.specs.Coming.{ComesTo}
+use Rattle.device.specs.Calls.{ComesStored}
 use Rattle.device.specs.Readings.{HasKeysRenewed}
 use Rattle.device.specs.Sides.{HasListened, HasRenewed, HasSet, IsPublisher, IsSubscriber}
 use Rattle.device_laws.specs.Devices.{IsCounted, member_in}
@@ -57,7 +57,7 @@ pub record IsRenewedRun (text : List ℕ) (r k : ℕ) : Type 0 where
   pub fit : All (FitsPolicy first.config k) (sets_of first.config k ++ sets)
   pub now : ℕ
   pub came : Publisher
-  pub comes : ComesTo now Datagram renewed came
+  pub comes : ComesStored now Datagram renewed came
   pub came_is : IsPublisher came
   pub waits : came.handed < came.made
   pub lost : Publisher
@@ -66,7 +66,7 @@ pub record IsRenewedRun (text : List ℕ) (r k : ℕ) : Type 0 where
   pub none_waits : lost.made ≤ lost.handed
   pub later : ℕ
   pub again : Publisher
-  pub comes_again : ComesTo later Datagram lost again
+  pub comes_again : ComesStored later Datagram lost again
   pub again_is : IsPublisher again
   pub waits_again : again.handed < again.made
   pub reads : Subscriber

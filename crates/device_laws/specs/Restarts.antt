@@ -6,7 +6,7 @@ use Rattle.device.specs.declared.publisher.Publisher.{Publisher}
 use Rattle.device.specs.Calls as numbers
 use Rattle.device.specs.Calls.{Call, Gives}
 use Rattle.device.specs.Sides.{IsNoLower, StandsAt}
-use Rattle.device_laws.specs.Publishing.{PublisherCall, PublisherLife, PublisherStep, SetField, SetWord, SetStatus, Waited, CameTo, HandedOver, Switched, Renewed, Resumed, Refused, publisher_after, publisher_in}
+use Rattle.device_laws.specs.Publishing.{PublisherCall, PublisherLife, PublisherStep, SetField, SetWord, SetStatus, Waited, CameTo, HandedOver, Switched, Renewed, Resumed, Aside, publisher_after, publisher_in}
 
 -- ---- the numbers that a life gave
 
@@ -21,7 +21,7 @@ numbers_of HandedOver = numbers.Other
 numbers_of (Switched group writer on) = numbers.Other
 numbers_of (Renewed keygroup sets) = numbers.Renewed keygroup sets
 numbers_of (Resumed keygroup now used sets) = numbers.Resumed keygroup now used sets
-numbers_of Refused = numbers.Other
+numbers_of Aside = numbers.Other
 
 -- the call of this step gave a datagram of the key group this token and number (IsGiven)
 abbrev pub GivesAt : ℕ → Publisher → PublisherStep → List PublisherStep → ℕ × ℕ → Type 0
