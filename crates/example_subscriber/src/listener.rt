@@ -257,7 +257,8 @@ impl<'c> Listener<'c> {
         requires { IsListener self.now }
     {
         let mut lost = 0u64;
-        for index in 0..self.group.count() {
+        let count = self.group.count();
+        for index in 0..count {
             lost = lost.saturating_add(self.group.notice(index).lost);
         }
         lost
@@ -325,9 +326,7 @@ impl<'c> Listener<'c> {
         ensures { IsListener self.new }
     {
         self.lines.clear();
-        for index in 0..self.group.count() {
-            self.put_sums(now, index)?;
-        }
+        self.put_all_sums(now)?;
         let moment = Piece::Number(now);
         if !self.cause.is_empty() {
             fill(&mut self.lines, "#: last refused ", &[moment])?;
@@ -336,6 +335,18 @@ impl<'c> Listener<'c> {
         fill(&mut self.lines, "#: ", &[moment])?;
         self.put_counts()?;
         print_all(rt, &self.lines)
+    }
+
+    /// What became of each reader's messages.
+    fn put_all_sums(&mut self, now: u64) -> Result<(), Fault>
+        requires { IsListener self.old }
+        ensures { IsListener self.new }
+    {
+        let count = self.group.count();
+        for index in 0..count {
+            self.put_sums(now, index)?;
+        }
+        Ok(())
     }
 
     /// What became of a reader's messages.

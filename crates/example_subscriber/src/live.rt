@@ -88,8 +88,8 @@ impl Mark {
         glance: &Glance<'_>,
         state: &str,
     ) -> Result<(), Fault> {
-        let name = glance.part.name.as_str();
-        fill(out, "# # number ", &[Piece::Word(name), Piece::Word(state)])?;
+        fill(out, glance.part.name.as_str(), &[])?;
+        fill(out, " # number ", &[Piece::Word(state)])?;
         match self.number {
             Some(number) => fill(out, "#", &[Piece::Number(u64::from(number))])?,
             None => fill(out, "-", &[])?,
@@ -138,7 +138,7 @@ fn put_folded(out: &mut Vec<u8>, lines: &[u8]) -> Result<u64, Fault> {
         let byte = lines[at];
         let is_full = byte == b' '
             && column > 0
-            && column + word_length(&lines[at + 1..]) >= COLUMNS;
+            && column.saturating_add(word_length(&lines[at + 1..])) >= COLUMNS;
         if byte == b'\n' || is_full || column >= COLUMNS {
             put_feed(out)?;
             count = count.saturating_add(1);
@@ -146,7 +146,7 @@ fn put_folded(out: &mut Vec<u8>, lines: &[u8]) -> Result<u64, Fault> {
         }
         if byte != b'\n' {
             out.push(byte)?;
-            column += 1;
+            column = column.saturating_add(1);
         }
     }
     Ok(count)

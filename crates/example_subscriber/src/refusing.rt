@@ -74,7 +74,10 @@ fn guard_cause(fault: OpenFault, heard: &Heard, wanted: Security) -> Cause {
             let high = u64::from(high);
             Cause::told("OldToken", ", token # after #", u64::from(got), high)
         }
-        OpenFault::BadSignature => Cause::told("BadSignature", ", token #", token, 0),
+        OpenFault::BadSignature => {
+            let pattern = ", token #, the datagram has # bytes";
+            Cause::told("BadSignature", pattern, token, heard.bytes)
+        }
         OpenFault::Repeated => Cause::told("Repeated", ", token #, number #", token, number),
         OpenFault::TooOld { high } => {
             Cause::told("TooOld", ", number # after #", number, u64::from(high))
