@@ -96,7 +96,7 @@ impl Told {
         requires { IsReaderOf glance.now.meta.now glance.now.reader.now }
     {
         let (meta, reader) = (glance.meta, glance.reader);
-        if self.untaken.look(glance) {
+        if self.untaken.look(head.moment, glance) {
             head.put(out)?;
             self.untaken.put(out, meta)?;
             put_feed(out)?;
@@ -175,7 +175,7 @@ impl Told {
     ) -> Result<(), Fault>
         requires { IsReaderOf glance.now.meta.now glance.now.reader.now }
     {
-        self.untaken.look(glance);
+        self.untaken.look(now, glance);
         self.untaken.listen(glance);
         self.mark.note(now, glance);
         if !draws {

@@ -11,6 +11,9 @@ use ps_config::{NumberingWord, ReaderPart};
 use pubsub_model::Why;
 use reader_group::Notice;
 
+/// How long no other line is put after one that a message can't be read, in milliseconds.
+const SECOND: u64 = 1000;
+
 /// What a look at a reader finds: the reader, what is noted of it, and its part of the configuration; and the last datagram.
 #[derive(Clone, Copy)]
 pub struct Glance<'a> {
@@ -31,6 +34,9 @@ pub struct Untaken {
     last: Option<Last>,
     /// Whether a row was stored since.
     is_before: bool,
+    /// The last for which a line was put, and the next moment at which one is put for another.
+    told: Option<Last>,
+    next: u64,
     /// What comes while it waits for its first row since it was cut.
     heard: Option<&'static str>,
 }
@@ -84,29 +90,46 @@ impl Untaken {
         seen: None,
         last: None,
         is_before: false,
+        told: None,
+        next: 0,
         heard: None,
     };
 
     /// A look after a datagram or a wait. The answer is whether there is a line to put: a message wasn't taken for another cause than
-    /// the last before it.
-    pub fn look(&mut self, glance: &Glance<'_>) -> bool {
+    /// the last one that was told. Where messages can't be read there is one a second at most, since with another key each has another
+    /// cause.
+    pub fn look(&mut self, now: u64, glance: &Glance<'_>) -> bool {
         let last = self.last_since(glance);
         if glance.notice.stored != self.stored {
             self.is_before = true;
         }
+        let is_bad = glance.notice.bad != self.bad;
         self.bad = glance.notice.bad;
         self.passed = glance.reader.passed();
         self.stored = glance.notice.stored;
-        let Some(last) = last else {
-            return false;
-        };
-        let is_told = match &self.last {
-            Some(before) => before.is_like(&last),
+        match last {
+            Some(last) => self.note(now, last, is_bad),
             None => false,
-        };
+        }
+    }
+
+    fn note(&mut self, now: u64, last: Last, is_bad: bool) -> bool {
         self.last = Some(last);
         self.is_before = false;
-        !is_told
+        let is_told = match &self.told {
+            Some(told) => told.is_like(&last),
+            None => false,
+        };
+        if is_told || now < self.next {
+            return false;
+        }
+        self.told = Some(last);
+        self.next = if is_bad {
+            now.saturating_add(SECOND)
+        } else {
+            now
+        };
+        true
     }
 
     fn last_since(&self, glance: &Glance<'_>) -> Option<Last> {
