@@ -133,7 +133,7 @@ pub fn put_drawing(out: &mut Vec<u8>, lines: &[u8], drawn: u64) -> Result<u64, F
 
 fn put_folded(out: &mut Vec<u8>, lines: &[u8]) -> Result<u64, Fault> {
     let mut count = 0u64;
-    let mut column = 0;
+    let mut column = 0usize;
     for at in 0..lines.len() {
         let byte = lines[at];
         let is_full = byte == b' '
