@@ -94,17 +94,15 @@ impl Mark {
             Some(number) => fill(out, "#", &[Piece::Number(u64::from(number))])?,
             None => fill(out, "-", &[])?,
         }
-        fill(
-            out,
-            " version #.# age # ms, # a second, lost #\n",
-            &[
-                Piece::Number(u64::from(glance.meta.major())),
-                Piece::Number(u64::from(glance.meta.minor())),
-                Piece::Number(now.saturating_sub(glance.notice.seen.unwrap_or(0))),
-                Piece::Number(self.rate),
-                Piece::Number(glance.notice.lost),
-            ],
-        )
+        let (major, minor) = (glance.meta.major(), glance.meta.minor());
+        let (major, minor) = (u64::from(major), u64::from(minor));
+        let age = now.saturating_sub(glance.notice.seen.unwrap_or(0));
+        let lost = glance.notice.lost;
+        let version = [Piece::Number(major), Piece::Number(minor)];
+        fill(out, " version #.#", &version)?;
+        let times = [Piece::Number(age), Piece::Number(self.rate)];
+        fill(out, " age # ms, # a second", &times)?;
+        fill(out, ", lost #\n", &[Piece::Number(lost)])
     }
 }
 
