@@ -1,10 +1,10 @@
 //! What whole runs leave.
-use crate::runs::{Ran, run};
-use itoa::Buffer;
+use crate::order::halves;
+use crate::runs::{Ran, run, text_of};
 use mem_edge::OpenGate;
-use std::alloc::{AllocError, Global};
+use std::alloc::Global;
+use std::process::Abort;
 use std::sync::Wait;
-use std::test::Fail;
 use std::thread::Threads;
 
 /// The runs. The first line of each has the words. Then come the file `s`, and after ` | ` each the files `c` and `d`, in which a
@@ -421,41 +421,27 @@ $ check --config s; [publisher]/id = \"u8:5\"/; out0; the answer is not written
 status 6, error output []";
 
 /// The first line of a run, and below it what the run left.
-fn told(alloc: Global, line: &str, ran: &Ran) -> Result<Vec<u8>, AllocError> {
-    let mut digits = Buffer::new();
-    let mut bytes = Vec::new(alloc);
-    for piece in [
-        line.as_bytes(),
-        b"\n",
-        ran.out.bytes(),
-        b"status ",
-        digits.format(ran.status).as_bytes(),
-        b", error output [",
-        ran.err.bytes(),
-        b"]",
-    ] {
-        bytes.extend_from_slice(piece)?;
-    }
-    Ok(bytes)
+fn told(rt: &impl Abort, alloc: Global, line: &str, ran: &Ran) -> String {
+    let (status, out, err) = (ran.status, text_of(rt, &ran.out), text_of(rt, &ran.err));
+    format!(in alloc; "{line}\n{out}status {status}, error output [{err}]").expect(rt, "memory")
 }
 
 /// Runs the program as the first line of a run says.
-fn run_line<R: Threads + Wait + Sync>(rt: &R, alloc: Global, line: &str) -> Result<Ran, Fail> {
-    let (words, rest) = line.split_once("; ").ok_or("no file")?;
-    let (files, rest) = rest.split_once("; ").ok_or("no failing calls")?;
-    let (fails, _) = rest.split_once("; ").ok_or("it shows nothing")?;
+fn run_line<R: Threads + Wait + Abort + Sync>(rt: &R, alloc: Global, line: &str) -> Ran {
+    let (words, rest) = halves(line, "; ");
+    let (files, rest) = halves(rest, "; ");
+    let (fails, _) = halves(rest, "; ");
     run(rt, alloc, words, files, fails, &OpenGate)
 }
 
 #[test]
-fn runs_leave_what_they_are_told_to(rt: HostRuntime) -> Result<(), Fail> {
+fn runs_leave_what_they_are_told_to(rt: HostRuntime) {
     for section in RUNS.split("\n$ ") {
-        let (line, _) = section.split_once('\n').ok_or("one line")?;
-        let ran = run_line(&rt, rt.alloc(), line)?;
-        let left = told(rt.alloc(), line, &ran)?;
-        assert_eq!(rt; str::from_utf8(&left).ok(), Some(section));
+        let (line, _) = halves(section, "\n");
+        let ran = run_line(&rt, rt.alloc(), line);
+        let left = told(&rt, rt.alloc(), line, &ran);
+        assert!(rt; left.as_str() == section, "{left}");
     }
-    Ok(())
 }
 
 /// The key frame of the first run, as a datagram.
@@ -463,16 +449,9 @@ const FIRST: &[u8] =
     b"\x71\x05\x09\x01\x00\x00\x00\x01\x01\x00\x09\x00\x00\x04\x00\x07\x07\x00\x00\x00\x07\x00\x00\x00\x00\x07\x00\x00\x00\x00\x07\x00\x00\x00\x00";
 
 #[test]
-fn the_first_datagram_is_a_key_frame(rt: HostRuntime) -> Result<(), Fail> {
-    let ran = run(
-        &rt,
-        rt.alloc(),
-        "play s",
-        "write 0 demo a=7/tick 100/",
-        "none",
-        &OpenGate,
-    )?;
-    let datagrams = [ran.lab.sent(0), ran.lab.received(0), ran.lab.sent(2)];
-    assert_eq!(rt; datagrams, [Some(FIRST), Some(FIRST), None]);
-    Ok(())
+fn the_first_datagram_is_a_key_frame(rt: HostRuntime) {
+    let line = "play s; write 0 demo a=7/tick 100/; none; two frames";
+    let lab = run_line(&rt, rt.alloc(), line).lab;
+    assert!(rt; lab.sent(0) == Some(FIRST) && lab.received(0) == Some(FIRST));
+    assert!(rt; lab.sent(2).is_none());
 }
