@@ -79,7 +79,7 @@ fn join_all<R: Wait>(rt: &R, cell: &Cell, first: &mut Pass, passes: Vec<Pass>)
 
 #[test]
 fn threads_write_beside_one_another(rt: HostRuntime) -> Result<(), Fail> {
-    let meta = meta(rt.alloc())?;
+    let meta = meta(&rt, rt.alloc());
     let (cell, mut first, mut passes) = Cell::new(
         &rt,
         rt.alloc(),
@@ -89,7 +89,7 @@ fn threads_write_beside_one_another(rt: HostRuntime) -> Result<(), Fail> {
     let patches = patches(&rt, rt.alloc(), cell.meta())?;
     write_beside(&rt, &cell, passes.as_mut_slice(), &patches);
     join_all(&rt, &cell, &mut first, passes);
-    assert_eq!(rt; first.version(), 200);
+    assert!(rt; first.version() == 200);
     assert!(rt; first.row().words[..4] == [50, 50, 50, 50]);
     Ok(())
 }

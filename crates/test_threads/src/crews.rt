@@ -133,46 +133,56 @@ fn attend<R: Wait>(
 }
 
 // Each write comes between the two calls of the gate: its version is above the one that there was before, and there afterwards.
-fn demand_writes(rt: &impl Abort, order: &Order, done: &Done) {
-    assert_eq!(rt; done.versions.as_slice().len(), 2);
-    for k in 0..2u32 {
-        let (before, after) = order.notes(done.list, k).expect(rt, "an item");
-        let version = done.versions.as_slice()[k as usize].1;
-        assert_eq!(rt; (before.calls, after.calls), (1, 1));
-        assert!(rt; before.version < version && version <= after.version);
-    }
+fn demand_writes<R: Abort>(rt: &R, order: &Order, done: &Done) {
+    let [(_, first), (_, second)] = done.versions.as_slice() else {
+        rt.panic("two versions")
+    };
+    demand_write(rt, order, done.list, 0, *first);
+    demand_write(rt, order, done.list, 1, *second);
+}
+
+fn demand_write<R: Abort>(rt: &R, order: &Order, list: u32, k: u32, version: u64) {
+    let (before, after) = order.notes(rt, list, k);
+    assert!(rt; before.calls == 1 && after.calls == 1);
+    assert!(rt; before.version < version && version <= after.version);
 }
 
 // The items of a list come one after another: the job has stored between any two calls of the gate.
 fn demand_order(rt: &impl Abort, order: &Order, list: u32) {
     let mut last = 0;
     for k in 0..3u32 {
-        let (before, after) = order.notes(list, k).expect(rt, "an item");
+        let (before, after) = order.notes(rt, list, k);
         assert!(rt; last < before.stores && before.stores < after.stores);
         last = after.stores;
     }
 }
 
 // The looks don't fall, and come between the two calls of the gate, after both writes. Tells whether a store came meanwhile.
-fn demand_looks(rt: &impl Abort, order: &Order, done: &Done) -> bool {
-    assert_eq!(rt; done.looks.as_slice().len(), 1);
-    let counts = done.looks.as_slice()[0].counts.as_slice();
-    assert_eq!(rt; counts.len(), times_of(done.list) as usize);
-    let (before, after) = order.notes(done.list, 2).expect(rt, "an item");
-    assert_eq!(rt; (before.calls, after.calls), (1, 1));
-    assert!(rt;
-        done.versions
-            .as_slice()
-            .iter()
-            .all(|write| write.1 <= before.version)
-    );
-    let mut least = before.stores.max(1);
-    for count in counts {
-        assert!(rt; least <= *count);
-        least = *count;
+fn demand_looks<R: Abort>(rt: &R, order: &Order, done: &Done) -> bool {
+    let [watched] = done.looks.as_slice() else {
+        rt.panic("one watch")
+    };
+    let counts = watched.counts.as_slice();
+    assert!(rt; counts.len() == times_of(done.list) as usize);
+    let (before, after) = order.notes(rt, done.list, 2);
+    assert!(rt; before.calls == 1 && after.calls == 1);
+    for (_, version) in done.versions.as_slice() {
+        assert!(rt; *version <= before.version);
     }
-    assert!(rt; least <= after.stores);
-    counts.iter().any(|count| *count < least)
+    let least = before.stores.max(1);
+    let last = last_of(rt, least, counts);
+    assert!(rt; last <= after.stores);
+    counts.first().is_some_and(|first| *first < last)
+}
+
+// The last of some counts, none of which is below the one before; the first isn't below this one.
+fn last_of<R: Abort>(rt: &R, least: u64, counts: &[u64]) -> u64 {
+    let mut last = least;
+    for count in counts {
+        assert!(rt; last <= *count);
+        last = *count;
+    }
+    last
 }
 
 // A bank of one data set, with two entries for each thread.
@@ -244,14 +254,14 @@ fn join_all<R: Wait + Abort>(
 
 // Runs a crew, and checks what it left. Tells whether a store came while one of its threads looked.
 fn run_one<R: Threads + Wait + Abort + Sync>(rt: &R, alloc: Global) -> Result<bool, Fail> {
-    let meta = meta(alloc)?;
+    let meta = meta(rt, alloc);
     let (first, second) = (patch(rt, &meta, 0, 1), patch(rt, &meta, 0, 2));
     let (bank, mut seen, hands) = bank(rt, alloc, &meta)?;
     let (targets, mut keeper, mut looks) = targets(rt, alloc, &meta)?;
     let crew = crew(
         alloc, &bank, &targets, hands, &mut looks, &meta, &first, &second,
     )?;
-    let order = Order::new(alloc)?;
+    let order = Order::new(rt, alloc);
     let (dones, stores) = crew.run(
         rt,
         &bank,
@@ -259,9 +269,9 @@ fn run_one<R: Threads + Wait + Abort + Sync>(rt: &R, alloc: Global) -> Result<bo
         &order,
         &mut || { attend(rt, &bank, &mut seen, &targets, &mut keeper, &order) },
     );
-    assert_eq!(rt; order.missed(), 0);
+    assert!(rt; order.missed() == 0);
     let came = join_all(rt, &order, &bank, &mut seen, &targets, &mut looks, dones);
-    assert_eq!(rt; seen.pass(0).version(), 16);
+    assert!(rt; seen.pass(0).version() == 16);
     assert!(rt; looks.pass(0).version() <= stores);
     Ok(came)
 }

@@ -1,8 +1,8 @@
 //! A gate at which the lists and the job wait for one another, and which notes what there is on both sides of each item.
 use std::alloc::Global;
+use std::process::Abort;
 use std::sync::Wait;
 use std::sync::atomic::{AtomicU64, Ordering};
-use std::test::Fail;
 use std::thread::yield_now;
 use ua_base::Gate;
 
@@ -45,15 +45,8 @@ pub struct Note {
 
 impl Order {
     /// Eight threads with three items each.
-    pub fn new(alloc: Global) -> Result<Order, Fail> {
-        let mut items = Vec::new(alloc);
-        for _ in 0..24u8 {
-            items.push(Sides {
-                before: Side::new(),
-                after: Side::new(),
-            })?;
-        }
-        Ok(Order {
+    pub fn new(rt: &impl Abort, alloc: Global) -> Order {
+        Order {
             came: AtomicU64::new(0),
             first: AtomicU64::new(0),
             answered: AtomicU64::new(0),
@@ -62,8 +55,8 @@ impl Order {
             version: AtomicU64::new(0),
             stores: AtomicU64::new(0),
             missed: AtomicU64::new(0),
-            items,
-        })
+            items: items(rt, alloc),
+        }
     }
 
     /// Holds until the eight lists and the job are there.
@@ -100,9 +93,9 @@ impl Order {
     }
 
     /// What was noted before and after an item.
-    pub fn notes(&self, thread: u32, k: u32) -> Option<(Note, Note)> {
-        let sides = self.sides(thread, k)?;
-        Some((sides.before.noted(), sides.after.noted()))
+    pub fn notes(&self, rt: &impl Abort, thread: u32, k: u32) -> (Note, Note) {
+        let sides = self.sides(thread, k).expect(rt, "an item");
+        (sides.before.noted(), sides.after.noted())
     }
 
     fn sides(&self, thread: u32, k: u32) -> Option<&Sides> {
@@ -133,6 +126,18 @@ impl Order {
         }
         self.miss();
     }
+}
+
+fn items(rt: &impl Abort, alloc: Global) -> Vec<Sides> {
+    let mut items = Vec::new(alloc);
+    for _ in 0..24u8 {
+        let sides = Sides {
+            before: Side::new(),
+            after: Side::new(),
+        };
+        items.push(sides).ok().expect(rt, "memory");
+    }
+    items
 }
 
 impl Side {

@@ -10,24 +10,23 @@ use mem_edge::MemoryLink;
 use std::alloc::Global;
 use std::process::Abort;
 use std::sync::Wait;
-use std::test::Fail;
 use std::thread::Threads;
 use ua_base::{Link, Opened};
 
 const TURNS: u8 = 3;
 
-fn all_come<R: Threads + Wait + Sync + Abort>(rt: &R, alloc: Global, room: u32) -> Result<(), Fail>
+fn all_come<R: Threads + Wait + Sync + Abort>(rt: &R, alloc: Global, room: u32)
     requires { 0 < room }
 {
-    let makers = Vec::from_array(alloc, [Few::new(0), Few::new(1)])?;
-    let fails = Vec::from_array(alloc, [5u64])?;
-    let mut link = MemoryLink::new(alloc, Vec::new(alloc), fails, Vec::new(alloc), false);
-    assert!(rt; link.open(4840, &[]) == Opened::Done);
+    let makers = Vec::from_array(alloc, [Few::new(0), Few::new(1)]).expect(rt, "memory");
+    let mut link = link_with(rt, alloc);
+    let opened = link.open(4840, &[]);
+    assert!(rt; opened == Opened::Done);
     let work = Work {
         turns: TURNS,
-        had: Counts::new(alloc)?,
+        had: Counts::new(alloc).expect(rt, "memory"),
     };
-    let gate = Meeting::new(alloc, Some(&work))?;
+    let gate = Meeting::new(rt, alloc, Some(&work));
     let ran = run_makers(
         rt,
         alloc,
@@ -37,25 +36,27 @@ fn all_come<R: Threads + Wait + Sync + Abort>(rt: &R, alloc: Global, room: u32) 
         room,
         &mut link,
         &gate,
-    )?;
-    assert_eq!(rt; gate.faults(), (0, 0));
+    )
+    .expect(rt, "memory");
     assert!(rt; gate.is_told_of(2, u32::from(TURNS)));
-    assert!(rt; ran.sent[0] <= 6 && ran.sent[1] <= 6);
-    assert!(rt; ran.sent[0] + ran.sent[1] == 11);
+    let (first, second) = (ran.sent[0], ran.sent[1]);
+    assert!(rt; first <= 6 && second <= 6 && first + second == 11);
     assert!(rt; ran.failed == 1);
     are_in_order(rt, &link);
-    Ok(())
 }
 
-// Each lane's datagrams that were sent are in order, and at most one is missing before another.
-fn are_in_order<R: Abort>(rt: &R, link: &MemoryLink) {
+/// A link whose sixth send fails.
+fn link_with(rt: &impl Abort, alloc: Global) -> MemoryLink {
+    let fails = Vec::from_array(alloc, [5u64]).expect(rt, "memory");
+    MemoryLink::new(alloc, Vec::new(alloc), fails, Vec::new(alloc), false)
+}
+
+/// Each lane's datagrams that were sent are in order, and at most one is missing before another.
+fn are_in_order(rt: &impl Abort, link: &MemoryLink) {
     let mut next = [0u8; 2];
     let mut misses = false;
     for n in 0..11u64 {
-        let datagram = link.sent(n).expect(rt, "a datagram");
-        assert!(rt; datagram.len() == 3 && datagram[0] < 2 && datagram[1] < 3 && datagram[2] < 2);
-        let lane = usize::from(datagram[0]);
-        let number = 2 * datagram[1] + datagram[2];
+        let (lane, number) = place_of(rt, link.sent(n).expect(rt, "a datagram"));
         if number != next[lane] {
             assert!(rt; !misses && number > next[lane]);
             misses = true;
@@ -64,12 +65,24 @@ fn are_in_order<R: Abort>(rt: &R, link: &MemoryLink) {
     }
 }
 
-#[test]
-fn lanes_over_a_queue_of_one_place(rt: HostRuntime) -> Result<(), Fail> {
-    all_come(&rt, rt.alloc(), 1)
+/// The lane of a datagram, and its number there.
+fn place_of(rt: &impl Abort, datagram: &[u8]) -> (usize, u8)
+    ensures lane { result.0 < 2 }
+    ensures number { result.1 < 255 }
+{
+    let [lane, turn, index] = datagram else {
+        rt.panic("three bytes")
+    };
+    assert!(rt; *lane < 2 && *turn < 3 && *index < 2);
+    (usize::from(*lane), 2 * *turn + *index)
 }
 
 #[test]
-fn lanes_over_a_queue_of_many_places(rt: HostRuntime) -> Result<(), Fail> {
-    all_come(&rt, rt.alloc(), 1024)
+fn lanes_over_a_queue_of_one_place(rt: HostRuntime) {
+    all_come(&rt, rt.alloc(), 1);
+}
+
+#[test]
+fn lanes_over_a_queue_of_many_places(rt: HostRuntime) {
+    all_come(&rt, rt.alloc(), 1024);
 }

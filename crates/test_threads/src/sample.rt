@@ -1,29 +1,33 @@
 //! A meta and its patches.
-ghost use Rattle.std.specs.Prelude.{◌≡◌, IfOk, false};
+ghost use Rattle.std.specs.Prelude.{◌≡◌, false};
 ghost use Rattle.row_words.specs.Patches.{IsPatchOf};
 
 use dataset_meta::{Field, Meta, Name32};
 use row_words::Patch;
 use std::alloc::Global;
 use std::process::Abort;
-use std::test::Fail;
 use ua_values::{Kind, Value, fits};
 
 /// Four fields of the kind UInt32.
-pub fn meta(alloc: Global) -> Result<Meta, Fail>
-    ensures { IfOk result (λ meta. meta.quality ≡ false) }
+pub fn meta(rt: &impl Abort, alloc: Global) -> Meta
+    ensures { result.quality ≡ false }
 {
     let mut fields = Vec::new(alloc);
     for name in [b"a", b"b", b"c", b"d"] {
-        let name = Name32::new(name).ok_or("no name")?;
-        fields.push(Field {
-            name,
-            kind: Kind::UInt32,
-            cap: 0,
-        })?;
+        fields.push(field(rt, name)).ok().expect(rt, "memory");
     }
-    let name = Name32::new(b"demo").ok_or("no name")?;
-    Ok(Meta::new(name, fields, 1, 0, false).ok().ok_or("no meta")?)
+    let name = Name32::new(b"demo").expect(rt, "a name");
+    Meta::new(name, fields, 1, 0, false)
+        .ok()
+        .expect(rt, "a meta")
+}
+
+fn field(rt: &impl Abort, name: &[u8]) -> Field {
+    Field {
+        name: Name32::new(name).expect(rt, "a name"),
+        kind: Kind::UInt32,
+        cap: 0,
+    }
 }
 
 /// The field at this index has this number.
