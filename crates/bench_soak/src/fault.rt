@@ -2,13 +2,12 @@
 use ps_config::ConfigEnd;
 use reader_group::Refusal;
 use std::alloc::{AllocError, AllocFailed};
-use std::error::Error;
 use std::fmt::{self, Display, Formatter, Write};
 use std::io;
 use ua_base::NoMemory;
 
 /// Why a soak ends before its time.
-#[derive(Debug, Drop)]
+#[derive(Drop)]
 pub enum Fault {
     /// The words aren't those that the program takes.
     BadWords,
@@ -40,16 +39,22 @@ impl Display for Fault {
             Fault::BadWords => f.write_str("the words are: TURNS [figures]"),
             Fault::Config(end) => write!(f, "{end}"),
             Fault::Unlike => f.write_str("the configuration isn't of this program's form"),
-            Fault::NoTurn { turn } => write!(f, "turn {turn} may not be"),
-            Fault::Long { turn } => write!(f, "turn {turn} makes a datagram that is too long"),
-            Fault::Refused { turn, refusal } => {
-                write!(f, "a datagram of turn {turn} is refused: {refusal}")
+            Fault::NoTurn { turn } => tell_number(f, "turn ", *turn, " may not be"),
+            Fault::Long { turn } => {
+                tell_number(f, "turn ", *turn, " makes a datagram that is too long")
             }
-            Fault::Unread { turn } => write!(f, "a message of turn {turn} isn't read"),
+            Fault::Refused { turn, refusal } => {
+                tell_number(f, "a datagram of turn ", *turn, " is refused: ")?;
+                write!(f, "{refusal}")
+            }
+            Fault::Unread { turn } => tell_number(f, "a message of turn ", *turn, " isn't read"),
             Fault::Differs { turn, reader } => {
-                write!(
+                tell_number(f, "after turn ", *turn, " reader ")?;
+                tell_number(
                     f,
-                    "after turn {turn} reader {reader} doesn't hold the row that was written"
+                    "",
+                    u64::from(*reader),
+                    " doesn't hold the row that was written",
                 )
             }
             Fault::NoFigures => f.write_str("what the process uses can't be read"),
@@ -59,7 +64,15 @@ impl Display for Fault {
     }
 }
 
-impl Error for Fault {}
+/// A number between two texts.
+fn tell_number<W: Write>(
+    f: &mut Formatter<W>,
+    front: &str,
+    number: u64,
+    behind: &str,
+) -> fmt::Result {
+    write!(f, "{front}{number}{behind}")
+}
 
 impl From<ConfigEnd> for Fault {
     fn from(end: ConfigEnd) -> Fault {
@@ -85,7 +98,10 @@ impl<T: Drop> From<AllocFailed<T>> for Fault {
     }
 }
 
-/// The output can't be written.
-pub fn unwritten(_: io::Error) -> Fault {
-    Fault::Unwritten
+/// What became of the output.
+pub fn written(told: io::Result<()>) -> Result<(), Fault> {
+    match told {
+        Ok(()) => Ok(()),
+        Err(_) => Err(Fault::Unwritten),
+    }
 }

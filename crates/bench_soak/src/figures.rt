@@ -1,5 +1,7 @@
 //! What the process uses.
-use crate::fault::{Fault, unwritten};
+ghost use Rattle.std.specs.Prelude.{◌≡◌, ◌≤◌, IfOk, length};
+
+use crate::fault::{Fault, written};
 use std::io::Read;
 use std::rt::Files;
 use std::time::{Clock, Instant};
@@ -28,13 +30,9 @@ impl Figures {
         let Some(start) = &self.start else {
             return Ok(());
         };
-        let Ok(passed) = start.elapsed(rt) else {
-            return Err(Fault::NoFigures);
-        };
-        let count = turns.saturating_sub(self.turns).max(1);
-        let each = u64::try_from(passed.as_nanos()).unwrap_or(u64::MAX) / count;
+        let each = passed(rt, start)? / turns.saturating_sub(self.turns).max(1);
         let memory = resident(rt)?;
-        println!(rt; "at turn {turns}: {each} ns a turn, {memory} KiB").map_err(unwritten)?;
+        written(println!(rt; "at turn {turns}: {each} ns a turn, {memory} KiB"))?;
         self.start = Some(now(rt)?);
         self.turns = turns;
         Ok(())
@@ -48,25 +46,42 @@ fn now<R: Clock>(rt: &R) -> Result<Instant, Fault> {
     }
 }
 
-/// The kibibytes of the process that are in memory. The second line of the file has them, as `Rss: 1740 kB`.
+/// The nanoseconds since then.
+fn passed<R: Clock>(rt: &R, start: &Instant) -> Result<u64, Fault> {
+    match start.elapsed(rt) {
+        Ok(passed) => Ok(u64::try_from(passed.as_nanos()).unwrap_or(u64::MAX)),
+        Err(_) => Err(Fault::NoFigures),
+    }
+}
+
+/// The kibibytes of the process that are in memory.
 fn resident<R: Files>(rt: &R) -> Result<u64, Fault> {
     let mut bytes = [0; 256];
+    let length = front_of(rt, &mut bytes)?;
+    match str::from_utf8(&bytes[..length]) {
+        Ok(text) => count_in(text),
+        Err(_) => Err(Fault::NoFigures),
+    }
+}
+
+/// The first bytes of the file, and how many they are.
+fn front_of<R: Files>(rt: &R, bytes: &mut [u8]) -> Result<usize, Fault>
+    ensures long { length bytes.new ≡ length bytes.old }
+    ensures within { IfOk result (λ count. count ≤ length bytes.new) }
+{
     let Ok(mut file) = fs::open(rt, MEMORY) else {
         return Err(Fault::NoFigures);
     };
-    let Ok(length) = file.read(&mut bytes) else {
-        return Err(Fault::NoFigures);
-    };
-    let Ok(text) = str::from_utf8(&bytes[..length]) else {
-        return Err(Fault::NoFigures);
-    };
-    let Some(line) = text.lines().nth(1) else {
-        return Err(Fault::NoFigures);
-    };
-    let Some(word) = line.split_whitespace().nth(1) else {
-        return Err(Fault::NoFigures);
-    };
-    match word.parse::<u64>() {
+    match file.read(bytes) {
+        Ok(count) => Ok(count),
+        Err(_) => Err(Fault::NoFigures),
+    }
+}
+
+/// The second word of the second line, as in `Rss: 1740 kB`.
+fn count_in(text: &str) -> Result<u64, Fault> {
+    let line = text.lines().nth(1).unwrap_or("");
+    match line.split_whitespace().nth(1).unwrap_or("").parse::<u64>() {
         Ok(count) => Ok(count),
         Err(_) => Err(Fault::NoFigures),
     }

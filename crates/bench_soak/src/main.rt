@@ -14,7 +14,7 @@ mod running;
 mod subscriber;
 mod words;
 
-ghost use Rattle.std.specs.Prelude.{IfOk};
+ghost use Rattle.std.specs.Prelude.{◌≤◌, ◌^◌, IfOk};
 ghost use Rattle.writer_group.specs.Standing.{IsGood};
 ghost use Rattle.bench_soak.specs.Sides.{IsRun};
 
@@ -22,7 +22,7 @@ use crate::configuration::CONFIGURATION;
 use crate::fault::Fault;
 use crate::figures::Figures;
 use crate::running::Run;
-use crate::words::words_of;
+use crate::words::{Words, words_of};
 use ps_config::{Config, read_config};
 use std::alloc::Global;
 use std::process::ExitCode;
@@ -48,14 +48,22 @@ fn main(rt: HostRuntime) -> ExitCode {
 fn soak<R: Files + Env + AllocGlobal + Print + Clock>(rt: &R, alloc: Global) -> Result<(), Fault> {
     let words = words_of(rt)?;
     let config = configured(alloc)?;
-    let mut run = Run::new(alloc, &config, words.turns)?;
+    run(rt, alloc, &config, words)
+}
+
+/// All turns of a configuration.
+fn run<R: Files + Print + Clock>(
+    rt: &R,
+    alloc: Global,
+    config: &Config,
+    words: Words,
+) -> Result<(), Fault>
+    requires good { IsGood config.now }
+    requires turns { words.turns ≤ 2 ^ 62 }
+{
     let mut figures = Figures::new(rt, words.figures)?;
-    figures.tell(rt, 0)?;
-    run.go_to(&config, words.turns.min(FIRST))?;
-    run.tell(rt)?;
-    figures.tell(rt, run.turns())?;
-    go_on(rt, &config, &mut run, &mut figures, words.turns)?;
-    run.tell(rt)
+    let mut run = Run::new(alloc, config, words.turns)?;
+    go(rt, config, &mut run, &mut figures, words.turns)
 }
 
 /// The configuration. What groups ask of one is what `read_config` promises of those that it accepts.
@@ -63,6 +71,24 @@ fn configured(alloc: Global) -> Result<Config, Fault>
     ensures { IfOk result IsGood }
 {
     Ok(read_config(alloc, CONFIGURATION.as_bytes())?)
+}
+
+/// The turns, of which the first ones come alone.
+fn go<R: Files + Print + Clock>(
+    rt: &R,
+    config: &Config,
+    run: &mut Run,
+    figures: &mut Figures,
+    turns: u64,
+) -> Result<(), Fault>
+    requires { IsRun config.now run.old }
+{
+    figures.tell(rt, 0)?;
+    run.go_to(config, turns.min(FIRST))?;
+    run.tell(rt)?;
+    figures.tell(rt, run.turns())?;
+    go_on(rt, config, run, figures, turns)?;
+    run.tell(rt)
 }
 
 /// The turns behind the first ones, in stretches, with the figures of each.

@@ -4,7 +4,7 @@ ghost use Rattle.writer_group.specs.Standing.{IsGood, IsReserved, datagrams_in};
 ghost use Rattle.bench_soak.specs.Sides.{IsRun};
 
 use crate::configuration::{INTERVAL, WRITERS};
-use crate::fault::{Fault, unwritten};
+use crate::fault::{Fault, written};
 use crate::publisher::Publisher;
 use crate::rows::sample;
 use crate::subscriber::Subscriber;
@@ -116,8 +116,9 @@ impl Run {
         let wraps = self.subscriber.wraps;
         let rollovers = self.publisher.rollovers;
         let renewals = self.publisher.renewals;
-        println!(rt;
+        let told = println!(rt;
             "turns {turns}, datagrams {datagrams}, rows {rows}, wraps {wraps}, rollovers {rollovers}, renewals {renewals}"
-        ).map_err(unwritten)
+        );
+        written(told)
     }
 }

@@ -21,28 +21,38 @@ pub struct Words {
 pub fn words_of<R: Env + AllocGlobal>(rt: &R) -> Result<Words, Fault>
     ensures { IfOk result (λ words. words.turns ≤ 2 ^ 62) }
 {
-    let Ok(mut args) = env::args(rt) else {
-        return Err(Fault::BadWords);
-    };
-    let _ = args.next();
-    let Some(turns) = args.next() else {
-        return Err(Fault::BadWords);
-    };
-    let Ok(turns) = turns.as_str().parse::<u64>() else {
-        return Err(Fault::BadWords);
-    };
-    if turns > MOST {
-        return Err(Fault::BadWords);
+    match env::args(rt) {
+        Ok(mut args) => words_in(&mut args),
+        Err(_) => Err(Fault::BadWords),
     }
-    match args.next() {
-        None => Ok(Words {
-            turns,
-            figures: false,
-        }),
-        Some(word) if word.as_str() == "figures" => Ok(Words {
-            turns,
-            figures: true,
-        }),
+}
+
+fn words_in<I: Iterator<Item = String>>(args: &mut I) -> Result<Words, Fault>
+    ensures { IfOk result (λ words. words.turns ≤ 2 ^ 62) }
+{
+    let _ = args.next();
+    let turns = turns_of(args.next())?;
+    let figures = are_told(args.next())?;
+    Ok(Words { turns, figures })
+}
+
+fn turns_of(word: Option<String>) -> Result<u64, Fault>
+    ensures { IfOk result (λ turns. turns ≤ 2 ^ 62) }
+{
+    let Some(word) = word else {
+        return Err(Fault::BadWords);
+    };
+    match word.as_str().parse::<u64>() {
+        Ok(turns) if turns <= MOST => Ok(turns),
+        _ => Err(Fault::BadWords),
+    }
+}
+
+/// Whether the word asks for figures; none asks for nothing.
+fn are_told(word: Option<String>) -> Result<bool, Fault> {
+    match word {
+        None => Ok(false),
+        Some(word) if word.as_str() == "figures" => Ok(true),
         Some(_) => Err(Fault::BadWords),
     }
 }
