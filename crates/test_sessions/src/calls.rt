@@ -5,6 +5,7 @@ ghost use Rattle.writer_group.specs.Standing.{IsGood};
 ghost use Rattle.test_sessions.specs.Devices.{IsDevice};
 
 use crate::configuration::expect_small;
+use crate::demanding::demand;
 use crate::device::Device;
 use crate::keys::ring_with;
 use crate::room::room_of;
@@ -68,7 +69,7 @@ pub(crate) fn round<R: Wait + Abort, L: Link>(
     ensures open { IsSome (L.opened_with link.new) }
 {
     let written = write(rt, device, version)?;
-    assert_eq!(rt; written, u64::from(version));
+    demand(rt, written == u64::from(version), "written");
     tick(rt, device, link)?;
     shows(rt, &device.session, want);
     Ok(())
@@ -118,7 +119,7 @@ pub(crate) fn renew<R: Abort>(
 {
     let ring = ring_with(tokens)?;
     let answer = device.session.renew(0, ring);
-    assert_eq!(rt; answer, is_kept);
+    demand(rt, answer == is_kept, "renewed");
     shows(rt, &device.session, want);
     Ok(())
 }

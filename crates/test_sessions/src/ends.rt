@@ -1,6 +1,7 @@
 //! What a closed session is to tell.
+use crate::demanding::demand;
 use crate::showing::{Expected, all_came, refusals};
-use ps_report::{Break, Closed, GroupEnd, ReadGroupEnd, State};
+use ps_report::{Break, Closed, State};
 use std::process::Abort;
 use std::test::Fail;
 
@@ -8,25 +9,22 @@ use std::test::Fail;
 /// closing tick sent the last again. The second message is missed. The fourth isn't, since the first datagram under a later token
 /// cuts the reader, whose run of messages begins anew.
 pub(crate) fn closes<R: Abort>(rt: &R, closed: &Closed, want: Expected) -> Result<(), Fail> {
-    let state = State::Operational;
     let [group] = closed.groups.as_slice() else {
         return Err("another number of groups".into());
     };
-    assert!(rt; *group == GroupEnd { state, sent: 5 });
+    demand(
+        rt,
+        group.state == State::Operational && group.sent == 5,
+        "group",
+    );
     logs(rt, closed, &[(0, 1), (1, 2), (2, 3), (3, 4), (4, 4)])?;
     let [read_group] = closed.read_groups.as_slice() else {
         return Err("another number of read groups".into());
     };
-    let causes = refusals(1);
-    assert!(rt;
-        *read_group
-            == ReadGroupEnd {
-                state,
-                taken: 4,
-                causes
-            }
-    );
-    assert!(rt; closed.link == all_came(5));
+    demand(rt, read_group.state == State::Operational, "read group");
+    demand(rt, read_group.taken == 4, "taken");
+    demand(rt, read_group.causes == refusals(1), "causes");
+    demand(rt, closed.link == all_came(5), "link");
     let missed = [Break {
         expected: 1,
         got: 2,
@@ -39,7 +37,7 @@ pub(crate) fn logs<R: Abort>(rt: &R, closed: &Closed, log: &[(u64, u64)]) -> Res
     let [writer] = closed.writers.as_slice() else {
         return Err("another number of writers".into());
     };
-    assert!(rt; writer.log.as_slice() == log);
+    demand(rt, writer.log.as_slice() == log, "log");
     Ok(())
 }
 
@@ -53,14 +51,14 @@ pub(crate) fn holds<R: Abort>(
     let [reader] = closed.readers.as_slice() else {
         return Err("another number of readers".into());
     };
-    assert_eq!(rt; reader.state, State::Operational);
+    demand(rt, reader.state == State::Operational, "state");
     let Some(held) = &reader.held else {
         return Err("no row".into());
     };
-    assert_eq!(rt;
-        (held.number, held.version, held.row.words[0]),
-        (Some(want.number), want.told(), want.version)
-    );
-    assert!(rt; reader.breaks == breaks.len() as u64 && reader.recent.as_slice() == breaks);
+    demand(rt, held.number == Some(want.number), "number");
+    demand(rt, held.version == want.told(), "version");
+    demand(rt, held.row.words[0] == want.version, "row");
+    demand(rt, reader.breaks == breaks.len() as u64, "count of breaks");
+    demand(rt, reader.recent.as_slice() == breaks, "breaks");
     Ok(())
 }

@@ -5,6 +5,8 @@
 mod calls;
 #[cfg(test)]
 mod configuration;
+#[cfg(test)]
+mod demanding;
 mod device;
 #[cfg(test)]
 mod ends;

@@ -7,6 +7,7 @@ ghost use Rattle.test_sessions.specs.Devices.{IsSmall};
 ghost use Rattle.test_sessions.specs.Outlets.{IsOutlet};
 
 use crate::configuration::expect_small;
+use crate::demanding::demand;
 use crate::keys::ring_with;
 use crate::outlet::Outlet;
 use crate::room::TICKS;
@@ -90,7 +91,7 @@ pub(crate) fn renew<R: Abort>(
 {
     let ring = ring_with(tokens)?;
     let answer = outlet.gateway.renew(0, ring);
-    assert_eq!(rt; answer, is_kept);
+    demand(rt, answer == is_kept, "renewed");
     shows_gateway(rt, &outlet.gateway, want);
     Ok(())
 }
@@ -132,20 +133,18 @@ fn shows_gateway<R: Abort>(rt: &R, gateway: &Gateway<'_>, want: Expected)
     requires gateway { IsGateway gateway.now }
     requires small { IsSmall gateway.now.config.now }
 {
-    assert_eq!(rt; gateway.moment(), want.moment);
-    assert_eq!(rt; gateway.standing(0), want.standing);
+    demand(rt, gateway.moment() == want.moment, "moment");
+    demand(rt, gateway.standing(0) == want.standing, "standing");
     shows_counts(rt, gateway, want);
     let state = gateway.state(Component::Reader {
         read_group: 0,
         reader: 0,
     });
-    assert_eq!(rt; state, State::Operational);
+    demand(rt, state == State::Operational, "state");
     let reader = gateway.reader(0, 0);
     let row = reader.row().expect(rt, "a row");
-    assert_eq!(rt;
-        (reader.number(), row.words[0]),
-        (Some(want.number), want.version)
-    );
+    demand(rt, reader.number() == Some(want.number), "number");
+    demand(rt, row.words[0] == want.version, "row");
 }
 
 /// The counts of its read group and of its link.
@@ -154,9 +153,8 @@ fn shows_counts<R: Abort>(rt: &R, gateway: &Gateway<'_>, want: Expected)
     requires small { IsSmall gateway.now.config.now }
 {
     let tally = gateway.tally(0);
-    assert_eq!(rt; tally.taken, want.taken);
-    let causes = refusals(want.unknown);
-    assert!(rt; tally.causes.as_slice() == causes.as_slice());
-    let link = gateway.link();
-    assert!(rt; link == all_came(want.taken.saturating_add(want.unknown)));
+    demand(rt, tally.taken == want.taken, "taken");
+    demand(rt, tally.causes == refusals(want.unknown), "causes");
+    let came = want.taken.saturating_add(want.unknown);
+    demand(rt, gateway.link() == all_came(came), "link");
 }

@@ -2,6 +2,7 @@
 ghost use Rattle.pubsub_engine.specs.Holding.{IsSession, plan_of};
 ghost use Rattle.test_sessions.specs.Devices.{IsSmall};
 
+use crate::demanding::demand;
 use dataset_reader::Passed;
 use ps_report::LinkEnd;
 use pubsub_engine::Session;
@@ -44,8 +45,8 @@ pub(crate) fn shows<R: Abort>(rt: &R, session: &Session<'_>, want: Expected)
     requires session { IsSession session.now }
     requires small { IsSmall (plan_of session.now).config }
 {
-    assert_eq!(rt; session.moment(), want.moment);
-    assert_eq!(rt; session.standing(0), want.standing);
+    demand(rt, session.moment() == want.moment, "moment");
+    demand(rt, session.standing(0) == want.standing, "standing");
     shows_counts(rt, session, want);
     shows_row(rt, session, want);
 }
@@ -56,11 +57,10 @@ fn shows_counts<R: Abort>(rt: &R, session: &Session<'_>, want: Expected)
     requires small { IsSmall (plan_of session.now).config }
 {
     let tally = session.tally(0);
-    assert_eq!(rt; tally.taken, want.taken);
-    let causes = refusals(want.unknown);
-    assert!(rt; tally.causes.as_slice() == causes.as_slice());
-    let link = session.link();
-    assert!(rt; link == link_end(want.taken.saturating_add(want.unknown), want.waiting));
+    demand(rt, tally.taken == want.taken, "taken");
+    demand(rt, tally.causes == refusals(want.unknown), "causes");
+    let came = want.taken.saturating_add(want.unknown);
+    demand(rt, session.link() == link_end(came, want.waiting), "link");
 }
 
 /// The state of the reader, its row, what it passed over, and where its last store comes from.
@@ -72,24 +72,20 @@ fn shows_row<R: Abort>(rt: &R, session: &Session<'_>, want: Expected)
         read_group: 0,
         reader: 0,
     });
-    assert_eq!(rt; state, State::Operational);
+    demand(rt, state == State::Operational, "state");
     let reader = session.reader(0, 0);
     let row = reader.row().expect(rt, "a row");
-    assert_eq!(rt;
-        (reader.number(), row.words[0]),
-        (Some(want.number), want.version)
-    );
+    demand(rt, reader.number() == Some(want.number), "number");
+    demand(rt, row.words[0] == want.version, "row");
     let passed = Passed {
         older: want.older,
         ..Passed::default()
     };
-    assert_eq!(rt; reader.passed(), passed);
+    demand(rt, reader.passed() == passed, "passed");
     let origin = session.origin(0);
-    assert_eq!(rt;
-        (origin.store, origin.number),
-        (want.stores, Some(want.number))
-    );
-    assert_eq!(rt; origin.version, want.told());
+    demand(rt, origin.store == want.stores, "stores");
+    demand(rt, origin.number == Some(want.number), "stored number");
+    demand(rt, origin.version == want.told(), "version");
 }
 
 /// So many refusals, each for a token that isn't known.
