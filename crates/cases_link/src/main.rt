@@ -13,27 +13,54 @@
 mod fates;
 mod heard;
 mod row;
+mod words;
 
 use heard::Heard;
 use row::Row;
+use std::alloc::Global;
+use std::fmt::{self, Display, Formatter, Write};
 use std::io;
+use words::RowFault;
+
+/// What is printed behind a line.
+#[derive(Drop)]
+enum Answer {
+    Note,
+    NoRow(RowFault),
+    NotPlayed(RowFault),
+    Heard(Heard),
+}
 
 fn main(rt: HostRuntime) -> io::Result<()> {
     for line in rt.lines(rt.alloc()) {
         let line = line?;
         let text = line.as_str();
-        if text.is_empty() || text.starts_with('#') {
-            println!(rt; "{text}")?;
-            continue;
-        }
-        let mut heard = Heard::new(rt.alloc());
-        match Row::read(rt.alloc(), text) {
-            Ok(row) => match row.play(&mut heard) {
-                Ok(()) => println!(rt; "{text} ->{heard}")?,
-                Err(fault) => println!(rt; "{text} -> not played: {fault:?}")?,
-            },
-            Err(fault) => println!(rt; "{text} -> not a row: {fault:?}")?,
-        }
+        let answer = answered(rt.alloc(), text);
+        println!(rt; "{text}{answer}")?;
     }
     Ok(())
+}
+
+fn answered(alloc: Global, text: &str) -> Answer {
+    if text.is_empty() || text.starts_with('#') {
+        return Answer::Note;
+    }
+    match Row::read(alloc, text) {
+        Ok(row) => match row.play() {
+            Ok(heard) => Answer::Heard(heard),
+            Err(fault) => Answer::NotPlayed(fault),
+        },
+        Err(fault) => Answer::NoRow(fault),
+    }
+}
+
+impl Display for Answer {
+    fn fmt<W: Write>(&self, f: &mut Formatter<W>) -> fmt::Result {
+        match self {
+            Answer::Note => Ok(()),
+            Answer::NoRow(fault) => write!(f, " -> not a row: {fault:?}"),
+            Answer::NotPlayed(fault) => write!(f, " -> not played: {fault:?}"),
+            Answer::Heard(heard) => write!(f, " ->{heard}"),
+        }
+    }
 }
