@@ -3,67 +3,79 @@ use dataset_meta::{Field, Meta, Name32};
 use std::alloc::{AllocError, Global};
 use ua_values::Kind;
 
+/// The name of a field, its kind and its cap.
+type FieldRow = (&'static str, Kind, u16);
+
+static NUMBERS: [FieldRow; 4] = [
+    ("a", Kind::UInt32, 0),
+    ("b", Kind::UInt32, 0),
+    ("c", Kind::UInt32, 0),
+    ("d", Kind::UInt32, 0),
+];
+
+static MEASURED: [FieldRow; 4] = [
+    ("zz", Kind::Int32, 0),
+    ("s", Kind::String, 256),
+    ("b0", Kind::ByteString, 256),
+    ("t", Kind::Boolean, 0),
+];
+
+static EACH_KIND: [FieldRow; 16] = [
+    ("a", Kind::Boolean, 0),
+    ("b", Kind::SByte, 0),
+    ("c", Kind::Byte, 0),
+    ("d", Kind::Int16, 0),
+    ("e", Kind::UInt16, 0),
+    ("f", Kind::Int32, 0),
+    ("g", Kind::UInt32, 0),
+    ("h", Kind::Int64, 0),
+    ("i", Kind::UInt64, 0),
+    ("j", Kind::Float, 0),
+    ("k", Kind::Double, 0),
+    ("l", Kind::String, 20),
+    ("m", Kind::DateTime, 0),
+    ("n", Kind::Guid, 0),
+    ("o", Kind::ByteString, 20),
+    ("p", Kind::StatusCode, 0),
+];
+
 /// Their metas.
 pub fn all(alloc: Global) -> Result<Vec<Meta>, AllocError> {
     let mut metas = Vec::new(alloc);
-    if let Some(meta) = meta(of_numbers(alloc)?, false) {
-        metas.push(meta)?;
-    }
-    if let Some(meta) = meta(measured(alloc)?, true) {
-        metas.push(meta)?;
-    }
-    if let Some(meta) = meta(of_each_kind(alloc)?, false) {
-        metas.push(meta)?;
-    }
+    add(alloc, &mut metas, &NUMBERS, false)?;
+    add(alloc, &mut metas, &MEASURED, true)?;
+    add(alloc, &mut metas, &EACH_KIND, false)?;
     Ok(metas)
+}
+
+/// One more, with these fields.
+fn add(
+    alloc: Global,
+    metas: &mut Vec<Meta>,
+    rows: &[FieldRow],
+    quality: bool,
+) -> Result<(), AllocError> {
+    let fields = fields_of(alloc, rows)?;
+    if let Some(meta) = meta(fields, quality) {
+        metas.push(meta)?;
+    }
+    Ok(())
 }
 
 fn meta(fields: Vec<Field>, quality: bool) -> Option<Meta> {
     Meta::new(Name32::new(b"demo")?, fields, 1, 1, quality).ok()
 }
 
-fn of_numbers(alloc: Global) -> Result<Vec<Field>, AllocError> {
+fn fields_of(alloc: Global, rows: &[FieldRow]) -> Result<Vec<Field>, AllocError> {
     let mut fields = Vec::new(alloc);
-    add(&mut fields, "a", Kind::UInt32, 0)?;
-    add(&mut fields, "b", Kind::UInt32, 0)?;
-    add(&mut fields, "c", Kind::UInt32, 0)?;
-    add(&mut fields, "d", Kind::UInt32, 0)?;
-    Ok(fields)
-}
-
-fn of_each_kind(alloc: Global) -> Result<Vec<Field>, AllocError> {
-    let mut fields = Vec::new(alloc);
-    add(&mut fields, "a", Kind::Boolean, 0)?;
-    add(&mut fields, "b", Kind::SByte, 0)?;
-    add(&mut fields, "c", Kind::Byte, 0)?;
-    add(&mut fields, "d", Kind::Int16, 0)?;
-    add(&mut fields, "e", Kind::UInt16, 0)?;
-    add(&mut fields, "f", Kind::Int32, 0)?;
-    add(&mut fields, "g", Kind::UInt32, 0)?;
-    add(&mut fields, "h", Kind::Int64, 0)?;
-    add(&mut fields, "i", Kind::UInt64, 0)?;
-    add(&mut fields, "j", Kind::Float, 0)?;
-    add(&mut fields, "k", Kind::Double, 0)?;
-    add(&mut fields, "l", Kind::String, 20)?;
-    add(&mut fields, "m", Kind::DateTime, 0)?;
-    add(&mut fields, "n", Kind::Guid, 0)?;
-    add(&mut fields, "o", Kind::ByteString, 20)?;
-    add(&mut fields, "p", Kind::StatusCode, 0)?;
-    Ok(fields)
-}
-
-fn measured(alloc: Global) -> Result<Vec<Field>, AllocError> {
-    let mut fields = Vec::new(alloc);
-    add(&mut fields, "zz", Kind::Int32, 0)?;
-    add(&mut fields, "s", Kind::String, 256)?;
-    add(&mut fields, "b0", Kind::ByteString, 256)?;
-    add(&mut fields, "t", Kind::Boolean, 0)?;
-    Ok(fields)
-}
-
-fn add(fields: &mut Vec<Field>, name: &str, kind: Kind, cap: u16) -> Result<(), AllocError> {
-    if let Some(name) = Name32::new(name.as_bytes()) {
-        fields.push(Field { name, kind, cap })?;
+    for (name, kind, cap) in rows {
+        if let Some(name) = Name32::new(name.as_bytes()) {
+            fields.push(Field {
+                name,
+                kind: *kind,
+                cap: *cap,
+            })?;
+        }
     }
-    Ok(())
+    Ok(fields)
 }

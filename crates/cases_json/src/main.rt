@@ -29,26 +29,29 @@ fn main(rt: HostRuntime) -> io::Result<()> {
     for line in rt.lines(rt.alloc()) {
         let line = line?;
         let text = line.as_str();
-        if text.is_empty() || text.starts_with('#') {
-            println!(rt; "{text}")?;
-            continue;
-        }
-        let answer = if let Some(case) = text.strip_prefix("datagrams ") {
-            tapped(rt.alloc(), case)?
-        } else {
-            let number = id;
-            id = id.saturating_add(1);
-            answer(rt.alloc(), &metas, number, text)?
-        };
-        println!(rt; "{text} -> {answer}")?;
+        let answer = answered(rt.alloc(), &metas, &mut id, text)?;
+        println!(rt; "{text}{answer}")?;
     }
     Ok(())
+}
+
+/// What is printed behind a line.
+fn answered(alloc: Global, metas: &[Meta], id: &mut u64, text: &str) -> Result<String, AllocError> {
+    if text.is_empty() || text.starts_with('#') {
+        return Ok(String::new(alloc));
+    }
+    if let Some(case) = text.strip_prefix("datagrams ") {
+        return tapped(alloc, case);
+    }
+    let number = *id;
+    *id = number.saturating_add(1);
+    answer(alloc, metas, number, text)
 }
 
 fn tapped(alloc: Global, text: &str) -> Result<String, AllocError> {
     match Case::read(alloc, text) {
         Some(case) => written(alloc, case),
-        None => format!(in alloc; "not a case"),
+        None => String::from_str(alloc, " -> not a case"),
     }
 }
 
@@ -58,13 +61,13 @@ fn answer(alloc: Global, metas: &[Meta], id: u64, line: &str) -> Result<String, 
     };
     match hex::decode(alloc, digits) {
         Ok(bytes) => told(alloc, metas, id, &bytes),
-        Err(_) => format!(in alloc; "not a case"),
+        Err(_) => String::from_str(alloc, " -> not a case"),
     }
 }
 
 fn told(alloc: Global, metas: &[Meta], id: u64, bytes: &[u8]) -> Result<String, AllocError> {
     if metas.len() < 3 {
-        return format!(in alloc; "no data sets");
+        return String::from_str(alloc, " -> no data sets");
     }
     match read_json(
         alloc,
@@ -73,7 +76,7 @@ fn told(alloc: Global, metas: &[Meta], id: u64, bytes: &[u8]) -> Result<String, 
         bytes,
     ) {
         Ok(read) => message_again(alloc, metas, id, read),
-        Err(end) => format!(in alloc; "{end:?}"),
+        Err(end) => format!(in alloc; " -> {end:?}"),
     }
 }
 
@@ -95,7 +98,7 @@ fn message_again(
         return Err(AllocError);
     };
     match str::from_utf8(&bytes) {
-        Ok(text) => format!(in alloc; "bad {bad} {text}"),
-        Err(_) => format!(in alloc; "not a text"),
+        Ok(text) => format!(in alloc; " -> bad {bad} {text}"),
+        Err(_) => String::from_str(alloc, " -> not a text"),
     }
 }

@@ -8,6 +8,7 @@ use json_tap::{Inner, JsonLine, Made, Tap, Tapped};
 use mem_edge::MemoryLink;
 use ps_config::Config;
 use std::alloc::{AllocError, Global};
+use std::fmt::Write;
 use std::marker::Brand;
 use std::str;
 use ua_base::{Link, Opened};
@@ -75,14 +76,13 @@ fn send_all<M: Made, L: Link>(tap: &mut Tap<'_, L, M>, datagrams: &[Vec<u8>])
 }
 
 fn shown(alloc: Global, lines: &[JsonLine], skipped: u64) -> Result<String, AllocError> {
-    let mut text = String::new(alloc);
+    let mut text = String::from_str(alloc, " -> ")?;
     for line in lines {
         if let Ok(line) = str::from_utf8(line.as_bytes()) {
             text.push_str(line)?;
             text.push(' ')?;
         }
     }
-    let count = format!(in alloc; "skipped {skipped}")?;
-    text.push_str(count.as_str())?;
+    write!(text, "skipped {skipped}")?;
     Ok(text)
 }
