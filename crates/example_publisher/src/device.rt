@@ -87,9 +87,10 @@ impl Device<'_> {
         let (token, number) = self.sender.standing();
         let version = self.version;
         let Sends { done, failed } = self.sends;
-        println!(rt;
+        let told = println!(rt;
             "{moment}: version {version}, token {token}, number {number}, sent {done}, failed {failed}"
-        ).map_err(unwritten)
+        );
+        written(told)
     }
 }
 
@@ -157,6 +158,10 @@ fn send_all<L: Link>(out: &Datagrams, count: u32, link: &mut L, sends: &mut Send
     }
 }
 
-pub fn unwritten(_: io::Error) -> Fault {
-    Fault::Unwritten
+/// What became of the output.
+pub fn written(told: io::Result<()>) -> Result<(), Fault> {
+    match told {
+        Ok(()) => Ok(()),
+        Err(_) => Err(Fault::Unwritten),
+    }
 }

@@ -94,20 +94,43 @@ pub fn patch_of(
 ) -> Result<Patch, Fault>
     ensures { IfOk result (IsPatchOf meta.now) }
 {
-    let mut patch = Patch::empty_of(meta);
     if thread == 0 {
-        let tenths = n % 400;
-        let (whole, part) = (tenths / 10, tenths % 10);
-        let text = format!(in alloc; "{n}: {whole}.{part}")?;
-        put(meta, &mut patch, "reading", &Value::UInt32(n))?;
-        put(meta, &mut patch, "celsius", &text_of(&text)?)?;
-        put(meta, &mut patch, "taken_at", &Value::DateTime(taken_at))?;
+        reading_patch(meta, n, &reading_text(alloc, n)?, taken_at)
     } else {
-        let text = format!(in alloc; "batch {n}")?;
-        put(meta, &mut patch, "count", &Value::UInt32(n))?;
-        put(meta, &mut patch, "label", &text_of(&text)?)?;
+        batch_patch(meta, n, &batch_text(alloc, n)?)
     }
+}
+
+fn reading_patch(meta: &Meta, n: u32, celsius: &Value, taken_at: i64) -> Result<Patch, Fault>
+    ensures { IfOk result (IsPatchOf meta.now) }
+{
+    let mut patch = Patch::empty_of(meta);
+    put(meta, &mut patch, "reading", &Value::UInt32(n))?;
+    put(meta, &mut patch, "celsius", celsius)?;
+    put(meta, &mut patch, "taken_at", &Value::DateTime(taken_at))?;
     Ok(patch)
+}
+
+fn batch_patch(meta: &Meta, n: u32, label: &Value) -> Result<Patch, Fault>
+    ensures { IfOk result (IsPatchOf meta.now) }
+{
+    let mut patch = Patch::empty_of(meta);
+    put(meta, &mut patch, "count", &Value::UInt32(n))?;
+    put(meta, &mut patch, "label", label)?;
+    Ok(patch)
+}
+
+/// The n-th reading, with one decimal place.
+fn reading_text(alloc: Global, n: u32) -> Result<Value, Fault> {
+    let tenths = n % 400;
+    let (whole, part) = (tenths / 10, tenths % 10);
+    let text = format!(in alloc; "{n}: {whole}.{part}")?;
+    text_of(&text)
+}
+
+fn batch_text(alloc: Global, n: u32) -> Result<Value, Fault> {
+    let text = format!(in alloc; "batch {n}")?;
+    text_of(&text)
 }
 
 /// The machine's date as a DateTime (OPC 10000-6 5.2.2.5): intervals of 100 ns since 1601. 0 where there is none.

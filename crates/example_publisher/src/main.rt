@@ -2,6 +2,9 @@
 //! peer, signed and encrypted, at each interval of the machine's clock.
 #![tactic(auto)]
 
+ghost use Rattle.std.specs.Prelude.{◌≤◌, ◌^◌};
+ghost use Rattle.writer_group.specs.Standing.{IsGood};
+
 mod device;
 mod filling;
 mod making;
@@ -11,8 +14,9 @@ mod publishing;
 
 use crate::publishing::publish;
 use example_parts::{Fault, Program, configuration, link_to, words_of};
+use ps_config::Config;
 use std::alloc::Global;
-use std::net::Net;
+use std::net::{Net, SocketAddrV4};
 use std::process::ExitCode;
 use std::rt::{Env, Files};
 use std::sync::Wait;
@@ -41,10 +45,24 @@ fn run<R: Files + Env + AllocGlobal + Print + Clock + Net + Threads + Wait + Syn
     }
     let name = words.config.as_str();
     let config = configuration(rt, alloc, name)?;
+    publish_to(rt, alloc, &config, name, words.peer, words.count)
+}
+
+fn publish_to<R: Files + AllocGlobal + Print + Clock + Net + Threads + Wait + Sync>(
+    rt: &R,
+    alloc: Global,
+    config: &Config,
+    name: &str,
+    peer: SocketAddrV4,
+    ticks: u64,
+) -> Result<(), Fault>
+    requires good { IsGood config.now }
+    requires ticks { ticks ≤ 2 ^ 62 }
+{
     let port = config.publisher.port;
     if port == 0 {
         return Err(Fault::NoPort);
     }
-    let mut link = link_to(rt, alloc, words.peer, port, Duration::ZERO)?;
-    publish(rt, alloc, &config, words.count, name, &mut link)
+    let mut link = link_to(rt, alloc, peer, port, Duration::ZERO)?;
+    publish(rt, alloc, config, ticks, name, &mut link)
 }

@@ -106,20 +106,33 @@ impl Numbers {
 
 /// What a file holds, and None where there is no such file. An error says that it can't be read, or holds no two numbers.
 fn read_kept<R: Files>(rt: &R, alloc: Global, name: &str) -> Result<Option<Kept>, ()> {
-    let mut file = match fs::open(rt, name) {
-        Ok(file) => file,
-        Err(error) if error.kind() == io::ErrorKind::NotFound => return Ok(None),
-        Err(_) => return Err(()),
-    };
     let mut text = String::new(alloc);
-    let Ok(_) = file.read_to_string(&mut text) else {
-        return Err(());
-    };
-    let Some((token, number)) = text.as_str().trim().split_once(' ') else {
+    match read_text(rt, name, &mut text) {
+        Ok(true) => Ok(Some(kept_in(text.as_str())?)),
+        Ok(false) => Ok(None),
+        Err(()) => Err(()),
+    }
+}
+
+/// Reads a file; tells whether it is there.
+fn read_text<R: Files>(rt: &R, name: &str, text: &mut String) -> Result<bool, ()> {
+    match fs::open(rt, name) {
+        Ok(mut file) => match file.read_to_string(text) {
+            Ok(_) => Ok(true),
+            Err(_) => Err(()),
+        },
+        Err(error) if error.kind() == io::ErrorKind::NotFound => Ok(false),
+        Err(_) => Err(()),
+    }
+}
+
+/// Token and number, with a space between them.
+fn kept_in(text: &str) -> Result<Kept, ()> {
+    let Some((token, number)) = text.trim().split_once(' ') else {
         return Err(());
     };
     match (token.parse::<u32>(), number.parse::<u32>()) {
-        (Ok(token), Ok(number)) => Ok(Some(Kept { token, number })),
+        (Ok(token), Ok(number)) => Ok(Kept { token, number }),
         _ => Err(()),
     }
 }
@@ -127,14 +140,21 @@ fn read_kept<R: Files>(rt: &R, alloc: Global, name: &str) -> Result<Option<Kept>
 /// Puts token and number into the file, by way of another one that takes its place once the machine has it.
 fn write_kept<R: Files>(rt: &R, alloc: Global, name: &str, kept: Kept) -> io::Result<()> {
     let fresh = format!(in alloc; "{name}.new")?;
-    let token = kept.token;
-    let number = kept.number;
-    let text = format!(in alloc; "{token} {number}\n")?;
-    let mut file = fs::create(rt, fresh.as_str())?;
-    file.write_all(text.as_bytes())?;
-    file.sync_all()?;
+    write_fresh(rt, alloc, fresh.as_str(), kept)?;
     fs::rename(rt, fresh.as_str(), name)?;
     sync_folder(rt, name)
+}
+
+/// Puts token and number into a new file, until the machine has it.
+fn write_fresh<R: Files>(rt: &R, alloc: Global, name: &str, kept: Kept) -> io::Result<()> {
+    let Kept { token, number } = kept;
+    let text = format!(in alloc; "{token} {number}\n")?;
+    write_text(&mut fs::create(rt, name)?, text.as_str())
+}
+
+fn write_text<F: OpenFile>(file: &mut F, text: &str) -> io::Result<()> {
+    file.write_all(text.as_bytes())?;
+    file.sync_all()
 }
 
 /// Has the machine keep the folder that the file is in.

@@ -4,7 +4,7 @@ ghost use denote.Param.Send.{IsSync};
 ghost use Rattle.writer_group.specs.Standing.{IsGood};
 ghost use Rattle.example_publisher.specs.Devices.{AreWorkers, IsBank, IsDevice, IsWorker};
 
-use crate::device::{Device, unwritten};
+use crate::device::{Device, written};
 use crate::filling::{Worker, fill};
 use crate::making::{Plant, plant_of};
 use crate::pace::Pace;
@@ -43,9 +43,7 @@ pub fn publish<R: Files + Print + Clock + Threads + Wait + Sync, L: Link>(
         mut device,
         interval,
     } = plant_of(rt, alloc, config, ticks, name)?;
-    let life = device.numbers.life();
-    println!(rt; "life {life}").map_err(unwritten)?;
-    device.tell(rt, 0)?;
+    begin(rt, &device)?;
     run_beside(
         rt,
         alloc,
@@ -57,6 +55,13 @@ pub fn publish<R: Files + Print + Clock + Threads + Wait + Sync, L: Link>(
         ticks,
         link,
     )
+}
+
+/// A line with what marks this run's rows, and one with where the device stands.
+fn begin<R: Print>(rt: &R, device: &Device<'_>) -> Result<(), Fault> {
+    let life = device.numbers.life();
+    written(println!(rt; "life {life}"))?;
+    device.tell(rt, 0)
 }
 
 /// The ticks on this thread, and beside them the threads that write, until the ticks are over.
