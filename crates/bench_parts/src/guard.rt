@@ -106,8 +106,8 @@ fn mode_of(encrypts: u32) -> Mode
 // The signing key has the bytes 0 to 31, the encrypting key 64 and on, the key nonce 51 four times.
 fn ring(long: bool) -> Option<Ring> {
     let mut signing = [0; 32];
-    for (i, byte) in (0u8..).zip(signing.iter_mut()) {
-        *byte = i;
+    for i in 0..32u8 {
+        signing[usize::from(i)] = i;
     }
     let mut encrypting = ArrayVec::new();
     let length: u8 = if long { 32 } else { 16 };

@@ -108,6 +108,13 @@ fn split_once(payload: &[u8], count: u8, parts: &mut Parts) -> bool {
     split(payload, count, parts).is_ok()
 }
 
+fn end_of(parts: &Parts) -> u64 {
+    match parts.last() {
+        Some(part) => part.end as u64,
+        None => 0,
+    }
+}
+
 /// Splits a payload of `count` frames, `turns` times, and adds up where the last one ends.
 #[unsafe(no_mangle)]
 pub extern "C" fn bench_split(count: u8, turns: u32, payload: &[u8]) -> u64 {
@@ -115,7 +122,7 @@ pub extern "C" fn bench_split(count: u8, turns: u32, payload: &[u8]) -> u64 {
     let mut sum: u64 = 0;
     for _ in 0..turns {
         if split_once(payload, count, &mut parts) {
-            sum = sum.wrapping_add(parts.last().map_or(0, |part| part.end as u64));
+            sum = sum.wrapping_add(end_of(&parts));
         }
     }
     sum
