@@ -1,7 +1,7 @@
 use Rattle.std.proofs.Common.{of_calls}
-use Rattle.uapubsub_c.specs.Storing.{BeginsWriter}
+use Rattle.uapubsub_c.specs.Beginning.{BeginsWriter}
 use Rattle.uapubsub_c.proofs.Answering.{calls-publisher}
-use Rattle.uapubsub_c.proofs.storing.uapubsub_writer_begin_at.Goals as goal
+use Rattle.uapubsub_c.proofs.beginning.uapubsub_writer_begin_at.Goals as goal
 
 pub publisher-requires-clause-moving : goal.publisher-requires-clause-moving
 publisher-requires-clause-moving c = record { callable = λ shown sound. search of_calls; leaves = λ old answer new sound moved. search of_calls }
