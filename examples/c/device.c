@@ -4,7 +4,7 @@
 // usage: device CONFIG PORT PEER-PORT SECONDS [KEYS]     (both ports of 127.0.0.1)
 //
 // What it has used of its keys' numbers is kept in CONFIG.state, and it goes on after that (docs/KEYS.md). CONFIG.state.lock keeps a second
-// device away. Moments are milliseconds since 1970: those of keys too, in CONFIG and in KEYS.
+// device away. Its moments are milliseconds since 1970, so of the key sets of CONFIG the last one is in use.
 //
 // KEYS is a file of key sets in place of those of CONFIG, with a line for each: NAME TOKEN FROM SIGNING ENCRYPTING NONCE, the keys in
 // hexadecimal digits. NAME is a key group that is published with, or a read group; its lines stand one behind another, the first from 0. Who
