@@ -2,13 +2,14 @@
 ghost use Rattle.std.specs.Prelude.{◌≡◌, ◌≤◌, Err, IfErr, IfOk, length};
 ghost use Rattle.std.specs.Str.{bytes_eq};
 ghost use Rattle.config_tables.specs.Paths.{path_text};
-ghost use Rattle.ps_config.specs.Reading.{configuration};
+ghost use Rattle.ps_config.specs.Reading.{configuration, IsEnd};
 ghost use Rattle.uapubsub_c.specs.Answers.{IsTold};
 ghost use Rattle.uapubsub_c.specs.Places.{IsFaultLine, IsFirstShown, IsLineOf, TellsPlace, line_feeds, shows};
 
+use crate::checking::read;
 use crate::status::{Status, tell};
 use config_tables::{Path, Placed, tables_of};
-use ps_config::{ConfigEnd, read_config};
+use ps_config::ConfigEnd;
 use std::alloc::Global;
 
 /// The number of the fault of a text that is no TOML document.
@@ -38,10 +39,19 @@ pub extern "C" fn uapubsub_config_place(alloc: Global, text: &[u8], place: &mut 
 fn place_in(alloc: Global, text: &[u8]) -> Result<PlaceWords, Status>
     ensures { TellsPlace text.now result }
 {
-    match read_config(alloc, text) {
-        Ok(_) => Err(Status::Nothing),
-        Err(ConfigEnd::Memory) => Err(Status::Memory),
-        Err(ConfigEnd::Refused { code, path }) => place_of(alloc, text, code, &path),
+    match read(alloc, text) {
+        Ok(()) => Err(Status::Nothing),
+        Err(end) => place_of_end(alloc, text, &end),
+    }
+}
+
+fn place_of_end(alloc: Global, text: &[u8], end: &ConfigEnd) -> Result<PlaceWords, Status>
+    requires { IsEnd (configuration text.now) end.now }
+    ensures { TellsPlace text.now result }
+{
+    match end {
+        ConfigEnd::Memory => Err(Status::Memory),
+        ConfigEnd::Refused { code, path } => place_of(alloc, text, *code, path),
     }
 }
 
@@ -49,11 +59,13 @@ fn place_of(alloc: Global, text: &[u8], code: u8, path: &Path) -> Result<PlaceWo
     requires { configuration text.now ≡ Err (code, path.now) }
     ensures { TellsPlace text.now result }
 {
-    let line = line_of(alloc, text, code, path)?;
-    Ok(PlaceWords {
-        code: u32::from(code),
-        line,
-    })
+    match line_of(alloc, text, code, path) {
+        Ok(line) => Ok(PlaceWords {
+            code: u32::from(code),
+            line,
+        }),
+        Err(status) => Err(status),
+    }
 }
 
 fn line_of(alloc: Global, text: &[u8], code: u8, path: &Path) -> Result<usize, Status>
