@@ -1,5 +1,5 @@
 -- What C stores of a publisher, and how a publisher goes on after it.
-use Rattle.std.specs.Prelude.{◌≡◌, ℕ, ◌<◌, ◌×◌, List, length, Result, Ok, Err}
+use Rattle.std.specs.Prelude.{◌≡◌, ℕ, ◌<◌, List, length, Result, Ok, Err}
 use Rattle.stored_state.specs.declared.state.TheConstants.{STATE_BYTES}
 use Rattle.device.specs.declared.publisher.Publisher.{Publisher}
 use Rattle.device.specs.Restarts.{AreDamaged, AreOfLater, AreOfOther, HasRestoredFrom}
