@@ -1,5 +1,7 @@
+pub mod Begins
 pub mod Dues
 pub mod Firsts
+pub mod Hashing
 pub mod Keys
 pub mod Looks
 pub mod Places
@@ -9,6 +11,8 @@ pub mod Rings
 pub mod Rising
 pub mod RestoredLives
 pub mod RowLists
+pub mod Savings
 pub mod Sending
+pub mod Taking
 pub mod Telling
 pub mod Tokens

@@ -305,7 +305,7 @@ restored-no-lower now state old new keygroup within has =
 
 -- a number that is given is of a key group that is there
 given-within : (keygroup now : ℕ) (old new : List SenderState) (pair : ℕ × ℕ) → HoldsAt (λ was. HoldsAt (IsGiven now pair was) new keygroup) old keygroup → keygroup < length new
-  unfolding no_sender
+unfolding no_sender
 given-within keygroup now old new pair gives = by_place (cases_lt keygroup (length new))
   where
     by_place : (keygroup < length new) ⊎ (length new ≤ keygroup) → keygroup < length new
@@ -318,7 +318,7 @@ given-within keygroup now old new pair gives = by_place (cases_lt keygroup (leng
 
 -- the sender that takes it is there too
 taken-within : (keygroup now : ℕ) (old new : List SenderState) (pair : ℕ × ℕ) → HoldsAt (λ was. HoldsAt (IsGiven now pair was) new keygroup) old keygroup → keygroup < length old
-  unfolding no_sender
+unfolding no_sender
 taken-within keygroup now old new pair gives = by_place (cases_lt keygroup (length old))
   where
     other : SenderState
@@ -338,7 +338,8 @@ restored-others keygroup (Came now next) calls others (Came at after) = λ begin
     let never = never-falls calls two three between in
     let two_within : keygroup < length two.senders.items = given-within keygroup now one.senders.items two.senders.items pair gives in
     let three_within : keygroup < length three.senders.items = omega (arith, two_within, never-count two.senders.items three.senders.items never) in
-    let three_store : IsStore three.store = store-kept (Came now next ∷ calls) one three (two, (called, between)) store in
+    let all_called : AreCalled (Came now next ∷ calls) one three = (two, (called, between)) in
+    let three_store : IsStore three.store = store-kept (Came now next ∷ calls) one three all_called store in
     let four_never = restored-less begins state begun four has in
     let five_never = never-falls others four five more in
     let five_within : keygroup < length five.senders.items = taken-within keygroup at five.senders.items six.senders.items other again in

@@ -2,8 +2,17 @@
 use Rattle.std.specs.Prelude.{◌≡◌, ℕ, zero, suc, ◌≤◌, Bool, true, false, List, length, slice_index_or, Option, Some, None, Result, Ok, Err}
 use Rattle.reader_group.specs.declared.refusal.Refusal.{Refusal}
 use Rattle.reader_group.specs.declared.refusal.Taken.{Taken}
+use Rattle.ps_config.specs.declared.parts.Config.{Config}
+use Rattle.reader_group.specs.Filter.{takes_number}
+use Rattle.reader_group.specs.Groups.{HadIf}
+use Rattle.device.specs.declared.listening.Listening.{Listening}
 use Rattle.device.specs.declared.subscriber.Subscriber.{Subscriber}
 use Rattle.device.specs.Sides.{HasListened}
+
+-- a read group had the datagram as in `HadIf`, with whatever is left of a copy of it
+pub record HadCopy (config : Config) (now : ℕ) (datagram : List ℕ) (old new : Listening) (answer : Result Taken Refusal) : Type 0 where
+  pub left : List ℕ
+  pub had : HadIf (takes_number old.number datagram) config old.group new.group now old.on.items datagram left answer
 
 -- the read group with this index had the datagram in a copy of its own, as by a call of its own (HasListened), and answered so
 pub record HasTaken (group now : ℕ) (datagram : List ℕ) (old new : Subscriber) (answer : Option (Result Taken Refusal)) : Type 0 where

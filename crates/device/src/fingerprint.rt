@@ -118,8 +118,15 @@ fn add_fields(hasher: &mut Sha256, fields: &[Field])
 {
     add_wide(hasher, fields.len() as u64);
     for f in 0..fields.len() {
-        add_number(hasher, kind_number(fields[f].kind));
+        add_field(hasher, &fields[f]);
     }
+}
+
+/// Its kind.
+fn add_field(hasher: &mut Sha256, field: &Field)
+    ensures { Adds (field_bytes field.now) hasher.old hasher.new }
+{
+    add_number(hasher, kind_number(field.kind));
 }
 
 /// A text, behind its length.

@@ -12,6 +12,7 @@ ghost use Rattle.reader_group.specs.Groups.{GoesOnWith, HadIf, IsConfirmedAt, Is
 ghost use Rattle.ps_config.specs.declared.parts.Config.{Config as ConfigValue};
 ghost use Rattle.device.specs.Due.{AreInTime, HasTimeout, IsInTime, TellsFirst, TimesOut};
 ghost use Rattle.device.specs.Readings.{HasExpired, HasGoneOff, HasSwitchedReader};
+ghost use Rattle.device.specs.Takings.{HadCopy};
 ghost use Rattle.device.specs.Sides.{IsListening, IsOpeningListening, KeepsNotes, NotesRefusal};
 
 use crate::due::earlier;
@@ -70,6 +71,26 @@ impl Listening {
     {
         self.group
             .datagram_of_number(config, self.number, now, &self.on, bytes)
+    }
+
+    /// What `datagram` does, with a copy that it makes in this room. The bytes stay.
+    pub fn datagram_copied(
+        &mut self,
+        config: &Config,
+        now: u64,
+        bytes: &[u8],
+        room: &mut [u8],
+    ) -> Result<Taken, Refusal>
+        requires listening { IsListening config.now self.old }
+        requires room { length bytes.now ≤ length room.old }
+        ensures listening { IsListening config.now self.new }
+        ensures had { HadCopy config.now now bytes.now self.old self.new result }
+        ensures refused { NotesRefusal result bytes.now self.old self.new }
+        ensures rest { self.new ≡ record self.old { group = self.new.group } }
+    {
+        let copy = &mut room[..bytes.len()];
+        copy.copy_from_slice(bytes);
+        self.datagram(config, now, copy)
     }
 
     /// Refuses a datagram by its header alone, of which this was read (`ReaderGroup::refuse`). None, and nothing changes, where more has

@@ -1,9 +1,10 @@
 //! How a publisher goes on after a restart.
-ghost use Rattle.std.specs.Prelude.{◌≡◌, ◌<◌, ◌≤◌, ℕ, IfErr, IfOk, IfSome, IfNone, OnErr, length};
+ghost use Rattle.std.specs.Prelude.{◌≡◌, ◌<◌, ◌≤◌, ◌%◌, ◌/◌, ◌^◌, ℕ, IfErr, IfOk, IfSome, IfNone, OnErr, length};
 ghost use Rattle.std.specs.Bool.{OnFalse, OnTrue};
+ghost use Rattle.std.specs.List.{HoldsAt};
 ghost use Rattle.stored_state.specs.States.{IsState};
 ghost use Rattle.stored_state.specs.declared.state.StoredState.{StoredState as StateValue};
-ghost use Rattle.device.specs.Restarts.{BeginsOrStays, HasBegunAt, HasNoLaterToken, HasLaterToken, HasRestoredFrom, HaveGoneOn, HaveNumbersBegun, IsStateOf, IsTurned, MayNotBegin, MayNotRestore};
+ghost use Rattle.device.specs.Restarts.{BeginsOrStays, HasBegunAt, HasGoneOn, HasNoLaterToken, HasLaterToken, HasRestored, HasRestoredFrom, HaveGoneOn, HaveNumbersBegun, IsStateOf, IsTurned, MayNotBegin, MayNotRestore, passed_over};
 ghost use Rattle.device.specs.Sides.{IsPublisher};
 
 use crate::fingerprint::fingerprint_of;
@@ -92,10 +93,25 @@ impl Publisher {
         ensures not { OnErr result (self.new ≡ self.old) }
         ensures refused { IfErr result (MayNotRestore now bytes.now self.old) }
     {
-        let state = self.state_of(bytes)?;
-        if let Some(keygroup) = self.later_token(now, &state) {
-            return Err(RestoreEnd::LaterToken { keygroup });
+        match self.state_of(bytes) {
+            Err(end) => Err(end),
+            Ok(state) => match self.later_token(now, &state) {
+                Some(keygroup) => Err(RestoreEnd::LaterToken { keygroup }),
+                None => {
+                    self.go_on_after(now, state);
+                    Ok(())
+                }
+            },
         }
+    }
+
+    /// Goes on after the state, which has no later token than the rings have.
+    fn go_on_after(&mut self, now: u64, state: StoredState)
+        requires publisher { IsPublisher self.old }
+        requires no_later { HasNoLaterToken now state.words self.old }
+        ensures publisher { IsPublisher self.new }
+        ensures restored { HasRestored now state self.old self.new }
+    {
         self.begin_all(&state);
         self.go_on_all(now, &state);
         let saved = Some(Saved { state, ahead: 1 });
@@ -103,7 +119,6 @@ impl Publisher {
             saved,
             covered: saved,
         };
-        Ok(())
     }
 
     /// The state that these bytes are of, where it is one of the configuration.
@@ -144,10 +159,20 @@ impl Publisher {
         ensures begun { HaveNumbersBegun 64 state.now.words self.old self.new }
     {
         for place in 0..WRITERS {
-            let group = (place / STATE_WRITERS) as u8;
-            let writer = (place % STATE_WRITERS) as u8;
-            self.begin_at(group, writer, state.words[MESSAGES_AT + place] as u16);
+            self.begin_place(place, state.words[MESSAGES_AT + place]);
         }
+    }
+
+    /// The writer at this place of 64, 16 a group, begins at the number, of which 16 bits count, where its group had no turn.
+    fn begin_place(&mut self, place: usize, word: u32)
+        requires publisher { IsPublisher self.old }
+        requires place { place < WRITERS }
+        ensures publisher { IsPublisher self.new }
+        ensures begun { BeginsOrStays (place / 16) (place % 16) (word % 2 ^ 16) self.old self.new }
+    {
+        let group = (place / STATE_WRITERS) as u8;
+        let writer = (place % STATE_WRITERS) as u8;
+        self.begin_at(group, writer, (word % 65_536) as u16);
     }
 
     /// Each key group goes on behind the state's pair.
@@ -158,10 +183,22 @@ impl Publisher {
             self.old self.new }
     {
         for k in 0..self.senders.len() {
-            let ring = copy_of(&self.rings[k]);
-            let used = passed_over(pair_in(&state.words, k), ring.at(now).token);
-            self.go_on(k as u8, now, used, ring);
+            self.go_on_behind(k, now, pair_in(&state.words, k));
         }
+    }
+
+    /// The key group with this index goes on behind the pair with its own ring, unless it used more numbers of its own.
+    fn go_on_behind(&mut self, keygroup: usize, now: u64, pair: (u32, u32))
+        requires publisher { IsPublisher self.old }
+        requires keygroup { keygroup < length self.old.senders.items }
+        ensures publisher { IsPublisher self.new }
+        ensures count { length self.new.senders.items ≡ length self.old.senders.items }
+        ensures gone { HoldsAt (HasGoneOn now keygroup pair self.old self.new)
+            self.old.senders.items keygroup }
+    {
+        let ring = copy_of(&self.rings[keygroup]);
+        let used = passed_over(pair, ring.at(now).token);
+        self.go_on(keygroup as u8, now, used, ring);
     }
 }
 

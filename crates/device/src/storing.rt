@@ -1,8 +1,9 @@
 //! What a publisher stores, so that a life after this one goes on after it.
-ghost use Rattle.std.specs.Prelude.{◌≡◌, ◌<◌, IsTrue};
+ghost use Rattle.std.specs.Prelude.{◌≡◌, ◌↔◌, ◌<◌, IfSome, IsTrue, length};
 ghost use Rattle.std.specs.Bool.{OnFalse, OnTrue};
+ghost use Rattle.writer_group.specs.Parts.{group_at};
 ghost use Rattle.device.specs.Sides.{IsPublisher};
-ghost use Rattle.device.specs.Storing.{AreAhead, AreWords, FallsShort, HasSaved, HasStored, IsMessageAt, IsPairAt, IsWordAt, MayHandOver};
+ghost use Rattle.device.specs.Storing.{AreAhead, AreWords, FallsShort, HasSaved, HasStored, IsMessageAt, IsPairAt, IsReleased, IsWordAt, MayHandOver};
 
 use crate::fingerprint::fingerprint_of;
 use crate::publisher::Publisher;
@@ -77,7 +78,9 @@ impl Publisher {
 
     /// The key group of the group whose datagrams wait.
     fn waiting_keygroup(&self) -> Option<u8>
-        ensures { result ≡ (group_at self.now.config self.now.from).keygroup }
+        requires { IsPublisher self.now }
+        ensures keygroup { result ≡ (group_at self.now.config self.now.from).keygroup }
+        ensures within { IfSome result (λ keygroup. keygroup < length self.now.senders.items) }
     {
         let groups = self.config.group.as_slice();
         let index = usize::from(self.from);
@@ -89,16 +92,14 @@ impl Publisher {
 
     /// Whether nothing was ever saved, or all numbers of this key group are in store.
     fn is_released(&self, keygroup: usize) -> bool
-        requires { IsPublisher self.now }
+        requires publisher { IsPublisher self.now }
+        requires keygroup { keygroup < length self.now.senders.items }
         ensures { IsTrue result ↔ IsReleased keygroup self.now }
     {
-        if self.store.saved.is_none() {
-            return true;
+        match &self.store.saved {
+            None => true,
+            Some(_) => self.store.covers(keygroup, &self.senders[keygroup]),
         }
-        if keygroup >= self.senders.len() {
-            return false;
-        }
-        self.store.covers(keygroup, &self.senders[keygroup])
     }
 
     /// The numbers of a state that is saved.

@@ -117,12 +117,10 @@ impl Subscriber {
         ensures taken { HasTaken index now bytes.now self.old self.new (Some result) }
     {
         let listening = &mut self.groups[index];
-        if let Some(refusal) = listening.refuse(&self.config, bytes, read) {
-            return Err(refusal);
+        match listening.refuse(&self.config, bytes, read) {
+            Some(refusal) => Err(refusal),
+            None => listening.datagram_copied(&self.config, now, bytes, &mut self.room),
         }
-        let copy = &mut self.room[..bytes.len()];
-        copy.copy_from_slice(bytes);
-        listening.datagram(&self.config, now, copy)
     }
 
     /// Time goes on to `now`, in milliseconds, for all readers (`ReaderGroup::expire`).
