@@ -346,7 +346,7 @@ restored-others keygroup (Came now next) calls others (Came at after) = λ begin
     let begun_within : keygroup < length begun.senders.items =
     omega (arith, five_within, never-count four.senders.items five.senders.items five_never, never-count begun.senders.items four.senders.items four_never) in
     let was = get_or five.senders.items keygroup no_sender in
-    let last_pair = ((turned was at).keys.token, (turned was at).used) in
+    let last_pair : ℕ × ℕ = ((turned was at).keys.token, (turned was at).used) in
     let one_to_state : IsNoLower (standing keygroup two) (pair_in state.words keygroup) =
     lower-lower (standing keygroup two) (standing keygroup three) (pair_in state.words keygroup) (never-standing keygroup two three never)
     (found-no-lower keygroup state three three_within three_store released found) in

@@ -1,6 +1,7 @@
 //! What a publisher stores, so that a life after this one goes on after it.
-ghost use Rattle.std.specs.Prelude.{◌≡◌, ◌↔◌, ◌<◌, IfSome, IsTrue, length};
+ghost use Rattle.std.specs.Prelude.{◌≡◌, ◌↔◌, ◌<◌, ◌^◌, All, IfSome, IsTrue, length};
 ghost use Rattle.std.specs.Bool.{OnFalse, OnTrue};
+ghost use Rattle.stored_state.specs.States.{IsState};
 ghost use Rattle.writer_group.specs.Parts.{group_at};
 ghost use Rattle.device.specs.Sides.{IsPublisher};
 ghost use Rattle.device.specs.Storing.{AreAhead, AreWords, FallsShort, HasSaved, HasStored, IsMessageAt, IsPairAt, IsReleased, IsWordAt, MayHandOver};
@@ -29,10 +30,7 @@ impl Publisher {
         ensures publisher { IsPublisher self.new }
         ensures saved { HasSaved ahead self.old self.new result }
     {
-        let state = StoredState {
-            fingerprint: fingerprint_of(&self.config),
-            words: self.words(ahead),
-        };
+        let state = state_with(&fingerprint_of(&self.config), &self.words(ahead));
         self.store.saved = Some(Saved { state, ahead });
         state.write()
     }
@@ -105,7 +103,8 @@ impl Publisher {
     /// The numbers of a state that is saved.
     fn words(&self, ahead: u32) -> [u32; 72]
         requires { IsPublisher self.now }
-        ensures { AreWords ahead self.now result }
+        ensures words { AreWords ahead self.now result }
+        ensures fit { All (λ word. word < 2 ^ 32) result }
     {
         let mut words = [0; STATE_WORDS];
         for i in 0..STATE_WORDS {
@@ -156,5 +155,18 @@ impl Publisher {
             None => 0,
             Some(number) => (u32::from(number) + ahead.min(MOST_AHEAD)) % 65536,
         }
+    }
+}
+
+/// The state with this fingerprint and these numbers.
+fn state_with(fingerprint: &[u8; 32], words: &[u32; 72]) -> StoredState
+    requires { All (λ word. word < 2 ^ 32) words.now }
+    ensures state { IsState result }
+    ensures fingerprint { result.fingerprint ≡ fingerprint.now }
+    ensures words { result.words ≡ words.now }
+{
+    StoredState {
+        fingerprint: *fingerprint,
+        words: *words,
     }
 }

@@ -22,7 +22,7 @@ returns-then-at-token-clause-later c = λ d.
     record {
       set = c.at.result.now;
       is = subst (λ (l : List KeySet). current l c.args.now ≡ Some c.at.result.now) sets c.at.ensures.last;
-      earlier = omega (arith, c.if-at-token.true, ap (λ (p : ℕ × ℕ). p.0) c.pair_in.ensures);
+      earlier = omega (arith, c.if-at-token.true, ap (λ (p : ℕ × ℕ). p.0) c.pair_in-token.ensures);
     }
 
 pub loop-k-preserved : goal.loop-k-preserved
@@ -31,4 +31,4 @@ loop-k-preserved c =
     let k = c.loop-k.k in
     let low : k < length self.senders.items = omega (arith, c.loop-k-test.true, c.len-k-end.ensures, self.senders.ok.0) in
     timely-more c.args.now k c.args.state.now.words self.senders.items self.rings.items c.index.result.now c.at.result.now c.requires.rings_are low c.index.ensures c.at.ensures.last
-    (omega (arith, c.if-at-token.false, ap (λ (p : ℕ × ℕ). p.0) c.pair_in.ensures)) c.loop-k.invariant
+    (omega (arith, c.if-at-token.false, ap (λ (p : ℕ × ℕ). p.0) c.pair_in-token.ensures)) c.loop-k.invariant
