@@ -38,12 +38,7 @@ pub extern "C" fn uapubsub_publisher_save(
     number_of(answer)
 }
 
-fn save_of(
-    kept: &mut Kept,
-    ahead: u32,
-    buffer: &mut [u8],
-    count: &mut usize,
-) -> Result<(), Status>
+fn save_of(kept: &mut Kept, ahead: u32, buffer: &mut [u8], count: &mut usize) -> Result<(), Status>
     requires { IsSound kept.old }
     ensures sound { IsSound kept.new }
     ensures saves { OfPublisher (Saves ahead buffer.old buffer.new count.new)

@@ -103,10 +103,7 @@ fn words_of(takings: &Takings) -> TakingsWords
         words_at(takings, 3),
     ];
     TakingsWords {
-        took: took_at(takings, 0)
-            + took_at(takings, 1)
-            + took_at(takings, 2)
-            + took_at(takings, 3),
+        took: took_at(takings, 0) + took_at(takings, 1) + took_at(takings, 2) + took_at(takings, 3),
         groups,
     }
 }
@@ -160,7 +157,8 @@ fn took_at(takings: &Takings, group: u8) -> u32
     ensures most { result ≤ 1 }
 {
     match takings.answer(group) {
+        None => 0,
         Some(Ok(_)) => 1,
-        _ => 0,
+        Some(Err(_)) => 0,
     }
 }
