@@ -1,5 +1,5 @@
 -- Writers that begin at another number, and senders that go on: what calls of a restart leave.
-use Rattle.std.proofs.Common.{◌≡◌, ◌≢◌, ℕ, zero, suc, ◌+◌, ◌*◌, ◌%◌, ◌/◌, ◌^◌, ◌<◌, ◌≤◌, ◌⊎◌, inl, inr, Bool, true, false, nat_eq, List, length, get_or, set, refl, sym, ap, subst, arith, ◌∙◌}
+use Rattle.std.proofs.Common.{◌≡◌, ◌≢◌, ℕ, suc, ◌+◌, ◌*◌, ◌%◌, ◌/◌, ◌^◌, ◌<◌, ◌≤◌, ◌⊎◌, inl, inr, Bool, true, false, nat_eq, List, length, get_or, set, refl, sym, ap, subst, arith, ◌∙◌}
 use Rattle.std.specs.Prelude.{◌==◌, All, IsTrue, Option, Some}
 use Rattle.std.specs.Bool.{OnFalse, OnTrue}
 use Rattle.std.specs.List.{AllZip, HoldsAt}
@@ -9,14 +9,12 @@ use Rattle.std.proofs.lemmas.Bool.Decides.{eqb_tells}
 use Rattle.std.proofs.lemmas.List.{get_or-set_same, get_or_read, length-set}
 use Rattle.ps_config.specs.Beginning.{HasWriterAt, config_beginning}
 use Rattle.ps_config.specs.declared.parts.Config.{Config}
-use Rattle.ps_config.specs.declared.parts.GroupPart.{GroupPart}
-use Rattle.ps_config.specs.declared.parts.KeyGroupPart.{KeyGroupPart}
 use Rattle.group_keys.specs.declared.key_set.KeySet.{KeySet}
 use Rattle.group_keys.specs.KeySets.{current}
 use Rattle.group_keys.specs.Ring.{key_sets}
 use Rattle.group_keys.specs.declared.ring.Ring.{Ring}
 use Rattle.message_guard.specs.Senders.{SenderState}
-use Rattle.writer_group.specs.Standing.{IsGood, IsMadeFor, index_of, writer_count}
+use Rattle.writer_group.specs.Standing.{IsGood, IsMadeFor, index_of}
 use Rattle.device.specs.Restarts.{BeginsOrStays, HasBegunAt, HasGoneOn, HasSideBegun, HaveGoneOn, HaveNumbersBegun, IsUnturned, MayNotBegin, passed_over}
 use Rattle.device.specs.Resuming.{IsBehind, IsEarlier, MayNotResume, WouldRepeat}
 use Rattle.device.specs.Sides.{ArePlaced, HasRing, HasWriter, IsPublisher, IsSide}
@@ -89,9 +87,12 @@ gone-from false now keygroup used pair sets set old new within count same curren
   there = omega (arith, within, count);
   set = set;
   current_is = subst (λ (l : List KeySet). current l now ≡ Some set) (same d) current_is;
-  is = inr ((λ p.
-      subst (λ (l : List KeySet). WouldRepeat (get_or old.config.keygroup keygroup p) l now (passed_over pair set.token) (get_or old.senders.items keygroup d)) (same d)
-      (subst (λ (n : ℕ). WouldRepeat (get_or old.config.keygroup keygroup p) sets now n (get_or old.senders.items keygroup d)) used_is (refused within (omega (arith, within, count)) p d))), stays);
+  is = inr (
+    (λ p.
+        subst (λ (l : List KeySet). WouldRepeat (get_or old.config.keygroup keygroup p) l now (passed_over pair set.token) (get_or old.senders.items keygroup d)) (same d)
+        (subst (λ (n : ℕ). WouldRepeat (get_or old.config.keygroup keygroup p) sets now n (get_or old.senders.items keygroup d)) used_is (refused within (omega (arith, within, count)) p d))),
+    stays,
+  );
 }
 
 pub gone-count : (result : Bool) (now keygroup used : ℕ) (sets : List KeySet) (old new : Publisher) → OnTrue result (IsBehind keygroup now used sets old new) → OnFalse result (new ≡ old)
@@ -182,8 +183,11 @@ timely-more now k words senders rings read set are low is current_is more before
 pub released-by : (result : Bool) (keygroup : ℕ) (publisher : Publisher) (sender : SenderState) (saved : SavedState) → keygroup < length publisher.senders.items
     → sender ≡ get_or publisher.senders.items keygroup sender → publisher.store.saved ≡ Some saved → (IsTrue result → IsCovered keygroup sender publisher.store.covered)
     → (IsCovered keygroup sender publisher.store.covered → IsTrue result) → (IsTrue result → IsReleased keygroup publisher) × (IsReleased keygroup publisher → IsTrue result)
-released-by result keygroup publisher sender saved low is some covers covered = (λ yes. inr (λ d. subst (λ (s : SenderState). IsCovered keygroup s publisher.store.covered)
-    (get_or_read publisher.senders.items keygroup sender low is d) (covers yes)), back)
+released-by result keygroup publisher sender saved low is some covers covered = (
+  λ yes. inr (λ d. subst (λ (s : SenderState). IsCovered keygroup s publisher.store.covered)
+      (get_or_read publisher.senders.items keygroup sender low is d) (covers yes)),
+  back,
+)
   where
     back : IsReleased keygroup publisher → IsTrue result
     back (inl none) = absurd (none-some saved (sym none ∙ some))

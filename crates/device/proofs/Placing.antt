@@ -1,5 +1,5 @@
 -- Groups at their places: what calls leave of it, and what one that begins anew leaves of the others.
-use Rattle.std.proofs.Common.{◌≡◌, ◌≢◌, ℕ, zero, suc, ◌<◌, ◌≤◌, ◌⊎◌, inl, inr, List, [], ◌∷◌, length, get_or, set, refl, sym, ap, subst, arith, ◌∙◌}
+use Rattle.std.proofs.Common.{◌≡◌, ◌≢◌, ℕ, zero, suc, ◌<◌, ◌⊎◌, inl, inr, List, [], ◌∷◌, length, get_or, set, refl, sym, ap, subst, arith, ◌∙◌}
 use Rattle.std.specs.Prelude.{All}
 use Rattle.std.specs.List.{AllZip, range_with_len}
 use Rattle.std.proofs.lemmas.Bool.{cases_eq}
@@ -12,7 +12,7 @@ use Rattle.message_guard.specs.Senders.{SenderState}
 use Rattle.writer_group.specs.Standing.{IsMadeFor, KeepsTo, MayGoOn, index_of, metas_for}
 use Rattle.writer_group.specs.declared.group.Group.{Group}
 use Rattle.device.specs.Coming.{IsRefreshedFor}
-use Rattle.device.specs.Resuming.{IsRefreshedWith, IsSecuredWith}
+use Rattle.device.specs.Resuming.{IsRefreshedWith}
 use Rattle.device.specs.Sides.{ArePlaced, IsOpeningSide, IsSide}
 use Rattle.device.specs.declared.side.Side.{Side}
 

@@ -1,10 +1,10 @@
 -- A life that goes on after what the life before stored.
-use Rattle.std.proofs.Common.{◌≡◌, ◌≢◌, ℕ, zero, suc, ◌+◌, ◌<◌, ◌≤◌, ◌⊎◌, inl, inr, Bool, true, false, List, [], ◌∷◌, length, get_or, min, nat_lt, refl, sym, ap, subst, arith, ◌∙◌}
+use Rattle.std.proofs.Common.{◌≡◌, ◌≢◌, ℕ, zero, suc, ◌<◌, ◌≤◌, ◌⊎◌, inl, inr, Bool, true, false, List, [], ◌∷◌, length, get_or, nat_lt, refl, sym, ap, subst, arith, ◌∙◌}
 use Rattle.std.specs.Prelude.{◌==◌, All, Option, Some, None, option_map, if◌then◌else◌}
-use Rattle.std.specs.List.{AllZip, HoldsAt}
+use Rattle.std.specs.List.{HoldsAt}
 use Rattle.std.proofs.lemmas.Bool.{cases_eq, cases_lt}
 use Rattle.std.proofs.lemmas.Bool.Decides.{eqb_tells, nat_tests}
-use Rattle.std.proofs.lemmas.List.{get_or-set_other, get_or_default, get_or_past}
+use Rattle.std.proofs.lemmas.List.{get_or-set_other, get_or_past}
 use Rattle.std.proofs.lemmas.Option.{none-some, same_Some}
 use Rattle.group_keys.specs.KeySets.{current}
 use Rattle.group_keys.specs.declared.key_set.KeySet.{KeySet}
@@ -13,12 +13,11 @@ use Rattle.message_guard.specs.Protection.{keys_in}
 use Rattle.message_guard.specs.Senders.{SenderState, turned}
 use Rattle.ps_config.specs.declared.parts.KeyGroupPart.{KeyGroupPart}
 use Rattle.stored_state.specs.declared.state.StoredState.{StoredState}
-use Rattle.device.specs.Calls.{AreCalled, Call, Came, ComesStored, FallBackNever, Gives, IsCalled, IsGiven, IsInStore, IsSavedBefore, IsSavedLater, IsStore, LeavesCovered, MayBeFound, Other, Renewed, Restored, RestoredGiveOthers, Resumed, Saved, SavesNoLower, Stored}
-use Rattle.device.specs.Restarts.{HasGoneOn, HasNoLaterToken, HasRestored, HaveGoneOn, passed_over}
+use Rattle.device.specs.Calls.{AreCalled, Call, Came, FallBackNever, IsCalled, IsGiven, IsInStore, IsStore, LeavesCovered, MayBeFound, Other, Renewed, Restored, RestoredGiveOthers, Resumed, Saved, SavesNoLower, Stored}
+use Rattle.device.specs.Restarts.{HasGoneOn, HasRestored, HaveGoneOn, passed_over}
 use Rattle.device.specs.Resuming.{IsBehind, IsEarlier, WouldRepeat}
-use Rattle.device.specs.Sides.{IsNoLess, IsNoLower, IsResumed}
-use Rattle.device.specs.Storing.{HasSaved, IsCovered, IsReleased, ahead_of, last_number, later_of, pair_in, pair_of, saved_pair}
-use Rattle.device.specs.declared.asked.Next.{Next}
+use Rattle.device.specs.Sides.{IsNoLower, IsResumed}
+use Rattle.device.specs.Storing.{HasSaved, IsCovered, IsReleased, ahead_of, later_of, pair_in, pair_of, saved_pair}
 use Rattle.device.specs.declared.publisher.Publisher.{Publisher}
 use Rattle.device.specs.declared.store.Saved.{Saved as SavedState}
 use Rattle.device.specs.declared.store.Store.{Store}

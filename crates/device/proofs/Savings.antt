@@ -1,16 +1,14 @@
 -- The numbers of a state that is saved, place by place.
-use Rattle.std.proofs.Common.{◌≡◌, ◌≢◌, ℕ, zero, suc, ◌+◌, ◌*◌, ◌-◌, ◌%◌, ◌/◌, ◌<◌, ◌≤◌, ◌⊎◌, inl, inr, List, [], ◌∷◌, ◌++◌, length, get_or, set, refl, sym, ap, subst, arith, length-append, ◌∙◌}
-use Rattle.std.specs.Prelude.{All, flat_map}
+use Rattle.std.proofs.Common.{◌≡◌, ℕ, zero, suc, ◌+◌, ◌-◌, ◌%◌, ◌/◌, ◌<◌, ◌≤◌, ◌⊎◌, inl, inr, List, [], ◌∷◌, length, get_or, set, refl, sym, ap, subst, arith, length-append, ◌∙◌}
+use Rattle.std.specs.Prelude.{flat_map}
 use Rattle.std.specs.List.{HoldsAt}
 use Rattle.std.proofs.lemmas.Bool.{cases_eq}
 use Rattle.std.proofs.lemmas.List.{get_or-set_other, get_or-set_same, get_or_read}
-use Rattle.message_guard.specs.Senders.{SenderState}
 use Rattle.ps_config.specs.declared.parts.GroupPart.{GroupPart}
 use Rattle.writer_group.specs.Standing.{index_of, writer_count}
 use Rattle.device.specs.Sides.{IsPublisher}
-use Rattle.device.specs.Storing.{AreMessagesSaved, ArePairsSaved, AreWords, IsMessageAt, IsPairAt, IsWordAt, message_place, pair_in, saved_pair}
+use Rattle.device.specs.Storing.{AreMessagesSaved, ArePairsSaved, AreWords, IsMessageAt, IsPairAt, IsWordAt, message_place, saved_pair}
 use Rattle.device.specs.declared.publisher.Publisher.{Publisher}
-use Rattle.device.specs.declared.side.Side.{Side}
 
 -- ---- one place more
 

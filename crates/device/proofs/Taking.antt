@@ -1,6 +1,6 @@
 -- A datagram that comes to all read groups: one after another.
 use Rattle.std.proofs.Common.{◌≡◌, ◌≢◌, ℕ, zero, suc, ◌+◌, ◌<◌, ◌≤◌, Bool, true, false, List, [], ◌∷◌, length, get_or, set, refl, sym, ap, subst, arith, ◌∙◌}
-use Rattle.std.specs.Prelude.{Option, Some, None, Result}
+use Rattle.std.specs.Prelude.{Option, None, Result}
 use Rattle.std.specs.List.{HoldsAt}
 use Rattle.std.proofs.lemmas.Bool.{false≢true}
 use Rattle.std.proofs.lemmas.List.{get_or-set_other, get_or-set_same, get_or_read, length-set}
@@ -9,7 +9,6 @@ use Rattle.reader_group.specs.Groups as reads
 use Rattle.reader_group.specs.Plain.{Got}
 use Rattle.reader_group.specs.declared.refusal.Refusal.{Refusal}
 use Rattle.reader_group.specs.declared.refusal.Taken.{Taken}
-use Rattle.ps_config.specs.declared.parts.Config.{Config}
 use Rattle.device.specs.Sides.{HasListened, NotesRefusal}
 use Rattle.device.specs.Takings.{AnswersNoOthers, HasTaken, HaveTaken}
 use Rattle.device.specs.declared.listening.Listening.{Listening}
@@ -75,17 +74,25 @@ taken-set : (count now : ℕ) (datagram : List ℕ) (answers : List (Option (Res
     → HaveTaken count now datagram answers old new → HaveTaken count now datagram (set answers i x) old new
 taken-set zero now datagram answers i x old new low have = have
 taken-set (suc count) now datagram answers i x old new low (mid, (have, taken)) =
-    let differs : count ≢ i = λ same. absurd (omega (arith, low, same)) in
-    (mid, (taken-set count now datagram answers i x old mid (omega (arith, low)) have,
-    subst (λ (o : Option (Result Taken Refusal)). HasTaken count now datagram mid new o) (sym (get_or-set_other answers i count x None differs)) taken))
+    let differs : count ≢ i = λ same. absurd (omega (arith, low, same)) in (
+      mid,
+      (
+        taken-set count now datagram answers i x old mid (omega (arith, low)) have,
+        subst (λ (o : Option (Result Taken Refusal)). HasTaken count now datagram mid new o) (sym (get_or-set_other answers i count x None differs)) taken,
+      ),
+    )
 
 pub taken-more : (count now : ℕ) (datagram : List ℕ) (answers : List (Option (Result Taken Refusal))) (x : Option (Result Taken Refusal)) (old mid new : Subscriber) → count < length answers
     → HaveTaken count now datagram answers old mid → HasTaken count now datagram mid new x → HaveTaken (count + 1) now datagram (set answers count x) old new
 taken-more count now datagram answers x old mid new low have taken =
     let more : suc count ≡ count + 1 = omega arith in
-    subst (λ (n : ℕ). HaveTaken n now datagram (set answers count x) old new) more
-    (mid, (taken-set count now datagram answers count x old mid (omega arith) have,
-    subst (λ (o : Option (Result Taken Refusal)). HasTaken count now datagram mid new o) (sym (get_or-set_same answers count x None low)) taken))
+    subst (λ (n : ℕ). HaveTaken n now datagram (set answers count x) old new) more (
+      mid,
+      (
+        taken-set count now datagram answers count x old mid (omega arith) have,
+        subst (λ (o : Option (Result Taken Refusal)). HasTaken count now datagram mid new o) (sym (get_or-set_same answers count x None low)) taken,
+      ),
+    )
 
 pub others-more : (count : ℕ) (answers : List (Option (Result Taken Refusal))) (x : Option (Result Taken Refusal)) → AnswersNoOthers count answers → AnswersNoOthers (count + 1) (set answers count x)
 others-more count answers x others = λ group low.

@@ -1,5 +1,5 @@
 -- Publishers that go on after a restart: their writers' first numbers, and all that was stored.
-use Rattle.std.specs.Prelude.{◌≡◌, ◌≢◌, ℕ, zero, suc, ◌+◌, ◌%◌, ◌/◌, ◌^◌, ◌<◌, ◌≤◌, ◌⊎◌, ◌==◌, List, length, slice_set, slice_index_or, Option, Some, None, if◌then◌else◌}
+use Rattle.std.specs.Prelude.{◌≡◌, ◌≢◌, ℕ, zero, suc, ◌%◌, ◌/◌, ◌^◌, ◌<◌, ◌⊎◌, ◌==◌, List, length, slice_set, Option, Some, if◌then◌else◌}
 use Rattle.std.specs.List.{HoldsAt}
 use Rattle.stored_state.specs.declared.state.StoredState.{StoredState}
 use Rattle.stored_state.specs.States.{IsState, written}

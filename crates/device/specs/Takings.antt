@@ -1,5 +1,5 @@
 -- A datagram that comes to all read groups at once.
-use Rattle.std.specs.Prelude.{◌≡◌, ℕ, zero, suc, ◌≤◌, Bool, true, false, List, length, slice_index_or, Option, Some, None, Result, Ok, Err}
+use Rattle.std.specs.Prelude.{◌≡◌, ℕ, zero, suc, ◌≤◌, Bool, true, false, List, slice_index_or, Option, Some, None, Result, Ok, Err}
 use Rattle.reader_group.specs.declared.refusal.Refusal.{Refusal}
 use Rattle.reader_group.specs.declared.refusal.Taken.{Taken}
 use Rattle.ps_config.specs.declared.parts.Config.{Config}

@@ -1,4 +1,4 @@
-use Rattle.std.proofs.Common.{◌<◌, ◌≤◌, length, refl, arith}
+use Rattle.std.proofs.Common.{refl, arith}
 use Rattle.device.specs.Fingerprints.{field_bytes}
 use Rattle.device.proofs.Hashing.{adds-all, adds-more, adds-none}
 use Rattle.device.proofs.fingerprint.add_fields.Goals as goal

@@ -1,4 +1,4 @@
-use Rattle.std.proofs.Common.{◌++◌, ℕ, List, sym, ap, subst, ◌∙◌}
+use Rattle.std.proofs.Common.{◌++◌, ℕ, List, sym, subst}
 use Rattle.config_tables.specs.declared.publisher.Publisher.{Publisher}
 use Rattle.device.specs.Fingerprints.{Adds, id_bytes, number, text}
 use Rattle.device.proofs.Hashing.{adds-then}

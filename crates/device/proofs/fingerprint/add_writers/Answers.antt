@@ -1,4 +1,4 @@
-use Rattle.std.proofs.Common.{◌<◌, ◌≤◌, length, refl, arith}
+use Rattle.std.proofs.Common.{refl, arith}
 use Rattle.device.specs.Fingerprints.{writer_bytes}
 use Rattle.device.proofs.Hashing.{adds-all, adds-more, adds-none}
 use Rattle.device.proofs.fingerprint.add_writers.Goals as goal

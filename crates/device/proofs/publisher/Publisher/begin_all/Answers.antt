@@ -1,4 +1,4 @@
-use Rattle.std.proofs.Common.{◌≡◌, ℕ, ◌<◌, ◌≤◌, rules, subst, arith}
+use Rattle.std.proofs.Common.{◌≡◌, ℕ, rules, subst, arith}
 use Rattle.device.specs.Restarts.{HaveNumbersBegun}
 use Rattle.device.proofs.Begins.{numbers-more}
 use Rattle.device.proofs.publisher.Publisher.begin_all.Goals as goal

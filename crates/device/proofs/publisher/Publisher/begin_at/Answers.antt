@@ -1,11 +1,9 @@
-use Rattle.std.proofs.Common.{◌≡◌, ℕ, ◌<◌, ◌≤◌, List, length, get_or, refl, set, sym, subst, ap, arith, ◌∙◌}
+use Rattle.std.proofs.Common.{◌≡◌, ℕ, ◌<◌, length, get_or, refl, set, subst, ap, arith, ◌∙◌}
 use Rattle.std.specs.Vec.{with_item}
 use Rattle.ps_config.specs.Beginning.{config_beginning}
 use Rattle.ps_config.specs.declared.parts.Config.{Config}
-use Rattle.writer_group.specs.Standing.{IsGood}
-use Rattle.device.specs.Restarts.{HasSideBegun, IsTurned, IsUnturned}
+use Rattle.device.specs.Restarts.{IsTurned, IsUnturned}
 use Rattle.device.specs.Sides.{HasWriter, IsSide}
-use Rattle.device.specs.declared.publisher.Publisher.{Publisher}
 use Rattle.device.specs.declared.side.Side.{Side}
 use Rattle.device.proofs.Begins.{begun-at, begun-publisher, same-read}
 use Rattle.device.proofs.Places.{holds-at}

@@ -1,4 +1,4 @@
-use Rattle.std.proofs.Common.{◌≡◌, ℕ, List, length, refl, ap, subst}
+use Rattle.std.proofs.Common.{ℕ, List, length, refl, ap, subst}
 use Rattle.message_guard.specs.Senders.{SenderState}
 use Rattle.device.specs.Restarts.{HaveGoneOn}
 use Rattle.device.proofs.Rising.{begun-senders}

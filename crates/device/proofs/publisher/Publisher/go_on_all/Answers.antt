@@ -1,4 +1,4 @@
-use Rattle.std.proofs.Common.{◌∙◌, refl}
+use Rattle.std.proofs.Common.{◌∙◌}
 use Rattle.device.proofs.Begins.{gone-more}
 use Rattle.device.proofs.publisher.Publisher.go_on_all.Goals as goal
 

@@ -1,4 +1,4 @@
-use Rattle.std.proofs.Common.{◌≡◌, ◌<◌, ◌≤◌, length, sym, ap, arith, ◌∙◌}
+use Rattle.std.proofs.Common.{ap, arith, ◌∙◌}
 use Rattle.group_keys.specs.Ring.{key_sets}
 use Rattle.message_guard.specs.Senders.{SenderState}
 use Rattle.device.proofs.Begins.{gone-count, gone-from}

@@ -1,9 +1,8 @@
-use Rattle.std.proofs.Common.{◌≡◌, ℕ, ◌<◌, ◌≤◌, List, length, get_or, refl, sym, ap, subst, arith, ◌∙◌}
+use Rattle.std.proofs.Common.{◌≡◌, ℕ, ◌<◌, List, length, get_or, ap, subst, arith, ◌∙◌}
 use Rattle.std.specs.Prelude.{Some}
 use Rattle.group_keys.specs.KeySets.{current}
 use Rattle.group_keys.specs.Ring.{key_sets}
 use Rattle.group_keys.specs.declared.key_set.KeySet.{KeySet}
-use Rattle.message_guard.specs.Senders.{SenderState}
 use Rattle.device.proofs.Begins.{timely-more}
 use Rattle.device.proofs.Rings.{ring-at, rings-count}
 use Rattle.device.proofs.publisher.Publisher.later_token.Goals as goal

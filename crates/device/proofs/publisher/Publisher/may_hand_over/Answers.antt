@@ -1,6 +1,5 @@
-use Rattle.std.proofs.Common.{◌≡◌, ℕ, sym, subst, ◌∙◌}
-use Rattle.std.specs.Prelude.{IsTrue, Some}
-use Rattle.writer_group.specs.Parts.{group_at}
+use Rattle.std.proofs.Common.{ℕ, sym, subst, ◌∙◌}
+use Rattle.std.specs.Prelude.{IsTrue}
 use Rattle.device.specs.Storing.{IsReleased}
 use Rattle.device.proofs.Begins.{hands-over}
 use Rattle.device.proofs.publisher.Publisher.may_hand_over.Goals as goal

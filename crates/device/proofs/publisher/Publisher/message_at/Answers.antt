@@ -1,7 +1,6 @@
-use Rattle.std.proofs.Common.{◌≡◌, ℕ, ◌+◌, ◌%◌, ◌^◌, ◌<◌, ◌≤◌, length, min, refl, sym, ap, subst, arith, ◌∙◌}
+use Rattle.std.proofs.Common.{ℕ, ◌+◌, ◌%◌, ◌<◌, length, ap, subst, arith, ◌∙◌}
 use Rattle.std.proofs.lemmas.List.{get_or_read}
 use Rattle.writer_group.specs.Standing.{TellsNextNumber}
-use Rattle.device.specs.Storing.{message_ahead}
 use Rattle.device.specs.declared.side.Side.{Side}
 use Rattle.device.proofs.publisher.Publisher.message_at.Goals as goal
 

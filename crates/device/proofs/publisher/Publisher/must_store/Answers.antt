@@ -1,4 +1,4 @@
-use Rattle.std.proofs.Common.{◌<◌, ◌≤◌, length, arith}
+use Rattle.std.proofs.Common.{arith}
 use Rattle.device.proofs.publisher.Publisher.must_store.Goals as goal
 
 pub returns-clause-not : goal.returns-clause-not

@@ -1,4 +1,4 @@
-use Rattle.std.proofs.Common.{◌≡◌, List, ℕ, refl, sym, subst, ◌∙◌}
+use Rattle.std.proofs.Common.{List, ℕ, refl, sym, subst, ◌∙◌}
 use Rattle.device.specs.Storing.{AreWords}
 use Rattle.device.proofs.Savings.{messages-saved, pairs-saved}
 use Rattle.device.proofs.publisher.Publisher.save.Goals as goal

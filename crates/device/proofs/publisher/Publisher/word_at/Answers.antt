@@ -1,5 +1,5 @@
 use Rattle.device.proofs.Savings.{message-word, number-word, token-word}
-use Rattle.std.proofs.Common.{◌<◌, ◌≤◌, refl, arith}
+use Rattle.std.proofs.Common.{refl}
 use Rattle.device.proofs.publisher.Publisher.word_at.Goals as goal
 
 pub returns-then-place-lt-STATE_KEYGROUPS : goal.returns-then-place-lt-STATE_KEYGROUPS

@@ -1,4 +1,4 @@
-use Rattle.std.proofs.Common.{ℕ, ◌<◌, ◌≤◌, ◌^◌, length, subst, arith, ◌∙◌}
+use Rattle.std.proofs.Common.{ℕ, ◌<◌, ◌^◌, length, subst, arith, ◌∙◌}
 use Rattle.std.proofs.lemmas.List.{get_or_default, length-set}
 use Rattle.device.specs.Storing.{IsWordAt}
 use Rattle.device.proofs.Savings.{more-places}

@@ -1,9 +1,9 @@
-use Rattle.std.proofs.Common.{◌≡◌, ℕ, ◌<◌, length, ap, arith, ◌∙◌}
+use Rattle.std.proofs.Common.{◌<◌, length, ap, arith, ◌∙◌}
 use Rattle.std.proofs.lemmas.List.{get_or_read}
 use Rattle.ps_config.specs.declared.parts.GroupPart.{GroupPart}
 use Rattle.writer_group.specs.Parts.{no_group}
 use Rattle.writer_group.specs.Standing.{TellsDueFrom}
-use Rattle.device.specs.Restarts.{IsDueElse, interval_of}
+use Rattle.device.specs.Restarts.{interval_of}
 use Rattle.device.proofs.Begins.{due-at}
 use Rattle.device.proofs.side.Side.is_unturned.Goals as goal
 
