@@ -1,16 +1,19 @@
 //! Where a configuration that is refused is at fault.
-ghost use Rattle.std.specs.Prelude.{◌≡◌, ◌≤◌, Err, IfErr, IfOk, length};
+ghost use Rattle.std.specs.Prelude.{◌≡◌, ◌<◌, ◌≤◌, true, false, Err, IfErr, IfOk, Some, length};
+ghost use Rattle.std.specs.List.{list_any};
 ghost use Rattle.std.specs.Str.{bytes_eq};
 ghost use Rattle.config_tables.specs.Paths.{path_text};
 ghost use Rattle.ps_config.specs.Reading.{configuration, IsEnd};
 ghost use Rattle.uapubsub_c.specs.Answers.{IsTold};
-ghost use Rattle.uapubsub_c.specs.Places.{IsFaultLine, IsFirstShown, IsLineOf, TellsPlace, line_feeds, shows};
+ghost use Rattle.toml.specs.View.{table_view};
+ghost use Rattle.uapubsub_c.specs.Places.{IsFaultLine, IsFirstShown, IsLineOf, ShowsAt, TellsPlace, line_feeds, shows, shows_in};
 
 use crate::checking::read;
 use crate::status::{Status, tell};
-use config_tables::{Path, Placed, tables_of};
+use config_tables::{Path, Place, Placed, tables_of};
 use ps_config::ConfigEnd;
 use std::alloc::Global;
+use toml::Table;
 
 /// The number of the fault of a text that is no TOML document.
 const BAD_TOML: u8 = 1;
@@ -104,40 +107,73 @@ fn first_line_with(alloc: Global, text: &[u8], path: &Path) -> Result<usize, Sta
     ensures memory { IfErr result (λ status. status ≡ Status.Memory) }
 {
     for end in 0..text.len() {
-        if text[end] == LINE_FEED && shows(alloc, &text[..end], path)? {
-            return Ok(1 + line_feeds(&text[..end]));
+        match shows_at(alloc, text, end, path) {
+            Ok(false) => {}
+            Ok(true) => return Ok(1 + line_feeds(&text[..end])),
+            Err(status) => return Err(status),
         }
     }
     Ok(1 + line_feeds(text))
 }
 
+/// Whether a line ends at this index, and the text in front of it shows the table.
+fn shows_at(alloc: Global, text: &[u8], end: usize, path: &Path) -> Result<bool, Status>
+    requires { end < length text.now }
+    ensures yes { IfOk result (λ is. is ≡ true → ShowsAt path.now text.now end) }
+    ensures no { IfOk result (λ is. is ≡ false → ¬ ShowsAt path.now text.now end) }
+    ensures memory { IfErr result (λ status. status ≡ Status.Memory) }
+{
+    if text[end] != LINE_FEED {
+        return Ok(false);
+    }
+    shows(alloc, &text[..end], path)
+}
+
 /// Whether the text is a document that has a table at this path.
+#[tactic(auto, using(crate::proofs::Showing::no_document, crate::proofs::Showing::a_document))]
 fn shows(alloc: Global, front: &[u8], path: &Path) -> Result<bool, Status>
     ensures shows { IfOk result (λ is. is ≡ shows path.now front.now) }
     ensures memory { IfErr result (λ status. status ≡ Status.Memory) }
 {
-    let document = match toml::table_from_slice(alloc, front) {
-        Ok(document) => document,
+    match toml::table_from_slice(alloc, front) {
+        Ok(document) => shows_in(alloc, &document, path),
         Err(error) => {
             if error.is_memory() {
-                return Err(Status::Memory);
+                Err(Status::Memory)
+            } else {
+                Ok(false)
             }
-            return Ok(false);
         }
-    };
-    match tables_of(alloc, &document) {
-        Ok(tables) => Ok(tables.iter().any(|placed| is_at(placed, path))),
+    }
+}
+
+/// Whether the document has a table at this path.
+#[tactic(auto, using(crate::proofs::Showing::listed))]
+fn shows_in(alloc: Global, document: &Table, path: &Path) -> Result<bool, Status>
+    ensures shows { IfOk result (λ is. is ≡ shows_in path.now (Some (table_view document.now))) }
+    ensures memory { IfErr result (λ status. status ≡ Status.Memory) }
+{
+    match tables_of(alloc, document) {
+        Ok(tables) => Ok(has_at(&tables, path)),
         Err(_) => Err(Status::Memory),
     }
 }
 
-fn is_at(placed: &Placed, path: &Path) -> bool
-    ensures { result ≡ bytes_eq (path_text placed.now.place) path.now }
+fn has_at(tables: &[Placed], path: &Path) -> bool
+    ensures { result ≡ list_any (λ placed. bytes_eq (path_text placed.place) path.now) tables.now }
 {
-    Path::of(placed.place).as_bytes() == path.as_bytes()
+    tables.iter().any(|placed| is_at(placed.place, path))
+}
+
+fn is_at(place: Place, path: &Path) -> bool
+    ensures { result ≡ bytes_eq (path_text place) path.now }
+{
+    let own = Path::of(place);
+    own.as_str() == path.as_str()
 }
 
 /// How many lines end in the text.
+#[tactic(auto, using(crate::proofs::Showing::few_feeds))]
 fn line_feeds(text: &[u8]) -> usize
     ensures count { result ≡ line_feeds text.now }
     ensures most { result ≤ length text.now }
