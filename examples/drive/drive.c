@@ -13,8 +13,9 @@ enum { ROUND_MS = 10, MOST_A_ROUND = 64, TOLD_MS = 1000 };
 // How old a set point may be with which the drive turns.
 enum { BOUND_MS = 500 };
 
-// How many numbers are stored ahead. A restart then skips more than 16,384 of them, so that readers begin anew.
-enum { AHEAD = 65536 };
+// How many numbers are stored ahead: a restart skips more than 16,384 of them, so that readers begin anew. And after how many datagrams they are
+// stored anew at the latest: a message number is stored at most 8,192 ahead, and uap_publisher_must_store doesn't look at those.
+enum { AHEAD = 65536, STORED_EACH = 4096 };
 
 enum data_set { MOTION, HEALTH, PLATE, SETPOINT, DATA_SETS };
 static const char *const SETS[DATA_SETS] = {"motion", "health", "plate", "setpoint"};
@@ -49,7 +50,7 @@ struct drive {
     char row[PLANT_ROW_BYTES];
     uint64_t told_ms;
     bool spent;
-    unsigned long sent, failed;
+    unsigned long sent, failed, stored;             // datagrams, and how many of them when the state was stored last
 };
 
 static uint8_t datagram[UAP_MOST_DATAGRAM_BYTES];
@@ -108,6 +109,7 @@ static void store(struct drive *drive) {
     plant_demand(uap_publisher_save(&drive->publisher, AHEAD, bytes, sizeof bytes, &length) == UAP_OK, "cannot save the state");
     plant_demand(uap_posix_write(drive->state, bytes, length, 0600) == 0, "cannot store the state");
     plant_demand(uap_publisher_stored(&drive->publisher) == UAP_OK, "cannot save the state");
+    drive->stored = drive->sent;
 }
 
 // Goes on after the life before, under the keys that it has now.
@@ -209,7 +211,7 @@ static void sample(struct drive *drive, uint64_t now) {
 static void publish(struct drive *drive, uint64_t now) {
     size_t length;
     uint32_t status;
-    if (uap_publisher_must_store(&drive->publisher) == UAP_OK) store(drive);
+    if (uap_publisher_must_store(&drive->publisher) == UAP_OK || drive->sent - drive->stored >= STORED_EACH) store(drive);
     while ((status = uap_publisher_next(&drive->publisher, now, datagram, sizeof datagram, &length)) == UAP_OK || status == UAP_UNSTORED) {
         if (status == UAP_UNSTORED) store(drive);
         else if (uap_posix_send(&drive->udp, datagram, length) == 0) drive->sent++;
@@ -259,7 +261,7 @@ int main(int words, char **word) {
     drive.started_ms = plant_now();
     drive.keys.name = word[4];
     open_sides(&drive, word[1]);
-    plant_demand(uap_posix_udp_open(&drive.udp, "127.0.0.1", (uint16_t)atoi(word[2]), "127.0.0.1", (uint16_t)atoi(word[3]), 0) == 0, "cannot open the port");
+    plant_demand(uap_posix_udp_open(&drive.udp, "127.0.0.1", plant_port(word[2]), "127.0.0.1", plant_port(word[3]), 0) == 0, "cannot open the port");
     plant_demand(renew(&drive, plant_now()), "no keys");
     restore(&drive, word[1]);
     run(&drive);

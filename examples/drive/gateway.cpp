@@ -18,8 +18,9 @@ using uapubsub::Field, uapubsub::Publisher, uapubsub::Reader, uapubsub::Status, 
 // how old the drive's health may be with which it is let run.
 constexpr std::uint64_t round_ms = 10, most_a_round = 64, told_ms = 1000, order_ms = 1500, health_ms = 2000;
 
-// How many numbers are stored ahead. A restart then skips more than 16,384 of them, so that readers begin anew.
-constexpr std::uint32_t ahead = 65536;
+// How many numbers are stored ahead: a restart skips more than 16,384 of them, so that readers begin anew. And after how many datagrams they are
+// stored anew at the latest: a message number is stored at most 8,192 ahead, and `must_store` doesn't look at those.
+constexpr std::uint32_t ahead = 65536, stored_each = 4096;
 
 constexpr float too_hot = 80;
 
@@ -116,6 +117,7 @@ private:
         const auto saved = publisher.save(ahead).value();
         if (uap_posix_write(state.c_str(), saved.data(), saved.size(), 0600) != 0) throw std::runtime_error("cannot store the state");
         demand(publisher.stored(), "cannot save the state");
+        stored = sent;
     }
 
     // Goes on after the life before, under the keys that it has now.
@@ -123,10 +125,10 @@ private:
         uapubsub::State saved;
         std::size_t length = 0;
         if (uap_posix_lock((state + ".lock").c_str()) != 0) throw std::runtime_error("another gateway has this state");
-        const int failed = uap_posix_read(state.c_str(), saved.data(), saved.size(), &length);
-        if (failed != 0 && failed != ENOENT) throw std::runtime_error("cannot read the state");
-        if (failed == 0) demand(publisher.restore(plant_now(), std::span(saved).first(length)), "cannot go on after the state");
-        plant_log("begins %s", failed == 0 ? "after its state" : "without a state");
+        const int fault = uap_posix_read(state.c_str(), saved.data(), saved.size(), &length);
+        if (fault != 0 && fault != ENOENT) throw std::runtime_error("cannot read the state");
+        if (fault == 0) demand(publisher.restore(plant_now(), std::span(saved).first(length)), "cannot go on after the state");
+        plant_log("begins %s", fault == 0 ? "after its state" : "without a state");
         store();
     }
 
@@ -165,8 +167,8 @@ private:
             const auto received = subscriber.received(it.reader).value();
             const auto passed = subscriber.passed(it.reader).value();
             const auto fault = subscriber.last_fault(it.reader).value();
-            plant_log("count %s lost %" PRIu64 " stored %" PRIu64 " passed %" PRIu64 " refused %" PRIu64 " %s bad %" PRIu64 " %s", it.name.c_str(), received.lost,
-                      received.stored, passed.older + passed.other_major + passed.unnumbered, it.refused, it.last_refusal.name(), fault.bad,
+            plant_log("count %s lost %" PRIu64 " stored %" PRIu64 " passed %" PRIu64 " refused %" PRIu64 " %s bad %" PRIu64 " %s", it.name.c_str(),
+                      received.lost, received.stored, passed.older + passed.other_major + passed.unnumbered, it.refused, it.last_refusal.name(), fault.bad,
                       uap_fault_name(fault.fault));
         }
         const auto standing = publisher.standing(0).value();
@@ -190,12 +192,12 @@ private:
 
     // Sends what is due. A datagram that the system doesn't take is lost, as it may be on its way.
     void publish(std::uint64_t now) {
-        if (publisher.must_store()) store();
+        if (publisher.must_store() || sent - stored >= stored_each) store();
         for (;;) {
             const auto next = publisher.next(now, datagram);
             if (next) (uap_posix_send(&udp, next->data(), next->size()) == 0 ? sent : failed)++;
             else if (next.status() == UAP_UNSTORED) store();
-            else if (next.status() == UAP_NONE) return;
+            else if (next.status() == UAP_NONE || next.status() == UAP_SPENT) return; // spent until a later token comes, which the counts show
             else throw std::runtime_error(std::string("cannot publish: ") + next.status().name());
         }
     }
@@ -211,7 +213,7 @@ private:
     uap_posix_udp udp = {-1, {}};
     std::vector<std::uint8_t> datagram = std::vector<std::uint8_t>(UAP_MOST_DATAGRAM_BYTES);
     std::uint64_t tell_at = 0;
-    unsigned long sent = 0, failed = 0;
+    unsigned long sent = 0, failed = 0, stored = 0;
 };
 
 }
@@ -220,7 +222,7 @@ int main(int count, char **words) {
     try {
         if (count != 5) throw std::runtime_error("the words are CONFIG PORT PEER-PORT KEYS");
         std::setvbuf(stdout, nullptr, _IOLBF, 0);
-        Gateway(words[1], static_cast<std::uint16_t>(std::stoul(words[2])), static_cast<std::uint16_t>(std::stoul(words[3])), words[4]).run();
+        Gateway(words[1], plant_port(words[2]), plant_port(words[3]), words[4]).run();
     } catch (const std::exception &error) {
         std::cerr << "gateway: " << error.what() << "\n";
         return 1;

@@ -43,6 +43,14 @@ static inline void plant_demand(bool is_so, const char *else_said) {
     exit(1);
 }
 
+/* A port, 1 to 65535. */
+static inline uint16_t plant_port(const char *word) {
+    char *rest;
+    unsigned long number = strtoul(word, &rest, 10);
+    plant_demand(word[0] >= '1' && word[0] <= '9' && *rest == '\0' && number <= 65535, "a port is a number from 1 to 65535");
+    return (uint16_t)number;
+}
+
 /* ---- the file of keys: a line for each key set, TOKEN FROM SIGNING ENCRYPTING NONCE, the keys in hexadecimal digits. Who fetches keys writes the
  * file anew, by a rename, with the key in use in front. */
 
@@ -109,7 +117,8 @@ static inline uint32_t plant_text(const struct plant_row *row, uint32_t field, c
 static inline uint32_t plant_field(const struct plant_row *row, uint32_t field, uint32_t kind, char *to, size_t room) {
     uint64_t word = 0;
     if (kind == UAP_STRING) return plant_text(row, field, to, room);
-    uint32_t status = row->is_own ? uap_own_word(row->handle, row->set, field, kind, &word) : uap_get_word(row->handle, row->group, row->reader, field, kind, &word);
+    uint32_t status = row->is_own ? uap_own_word(row->handle, row->set, field, kind, &word)
+                                  : uap_get_word(row->handle, row->group, row->reader, field, kind, &word);
     uint32_t half = (uint32_t)word;
     float single;
     double twice;
