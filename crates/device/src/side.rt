@@ -1,12 +1,14 @@
 //! A group of writers, of a configuration that its publisher keeps.
-ghost use Rattle.std.specs.Prelude.{◌≡◌, ◌<◌, IfOk, IfSome, IfNone, Some, None, All, length, min, slice_index_or};
+ghost use Rattle.std.specs.Prelude.{◌≡◌, ◌<◌, ◌≤◌, IfOk, IfSome, IfNone, Some, None, All, length, min, slice_index_or};
 ghost use Rattle.std.specs.Bool.{OnFalse, OnTrue};
 ghost use Rattle.message_guard.specs.Senders.{IsSender};
 ghost use Rattle.ps_config.specs.declared.parts.Config.{Config as ConfigValue};
 ghost use Rattle.writer_group.specs.Parts.{group_at};
-ghost use Rattle.writer_group.specs.Standing.{AreRowsOf, IsGood, IsReserved, KeepsTo, TellsDue, TellsMoment, index_of, writer_count};
+ghost use Rattle.writer_group.specs.Standing.{AreRowsOf, IsGood, IsReserved, KeepsTo, TellsDue, TellsMoment, TellsNextNumber, index_of, writer_count};
 ghost use Rattle.device.specs.Coming.{AreRefreshed, all_writers};
 ghost use Rattle.device.specs.Due.{HasTurnDue, SitsOut, TellsFirst};
+ghost use Rattle.ps_config.specs.Beginning.{config_beginning};
+ghost use Rattle.device.specs.Restarts.{HasSideBegun, IsTurned, IsUnturned};
 ghost use Rattle.device.specs.Sides.{HasComeOn, HasNumbered, HasSwitched, HasTurned, HasWriter, IsOpeningSide, IsSide, MayNotTurn, MayTurn, numbered, sender_for};
 
 use message_guard::Sender;
@@ -79,6 +81,41 @@ impl Side {
             return false;
         }
         index < part_of(config, self.index).writer.as_slice().len()
+    }
+
+    /// The number that the next data message of the writer with this index takes. None where there is no such writer.
+    pub fn next_number(&self, config: &Config, writer: u8) -> Option<u16>
+        requires { IsSide config.now self.now }
+        ensures next { IfSome result (TellsNextNumber self.now.group writer) }
+        ensures none { IfNone result (writer_count self.now.group ≤ writer) }
+    {
+        if usize::from(writer) >= part_of(config, self.index).writer.as_slice().len() {
+            return None;
+        }
+        Some(self.group.next_number(writer))
+    }
+
+    /// Whether the group had no turn yet: it is due an interval after moment 0.
+    pub fn is_unturned(&self, config: &Config) -> bool
+        requires { IsSide config.now self.now }
+        ensures unturned { OnTrue result (IsUnturned config.now self.now) }
+        ensures turned { OnFalse result (IsTurned config.now self.now) }
+    {
+        let interval = u64::from(part_of(config, self.index).interval);
+        match self.group.due_from() {
+            None => false,
+            Some(moment) => moment == interval,
+        }
+    }
+
+    /// The writer with this index begins anew, with this number as that of its first data message (`Group::begin_at`).
+    pub fn begin_at(&mut self, _config: &Config, writer: u8, number: u16)
+        requires side { IsSide _config.now self.old }
+        requires writer { HasWriter writer self.old }
+        ensures side { IsSide (config_beginning self.old.index writer number _config.now) self.new }
+        ensures begun { HasSideBegun writer number self.old self.new }
+    {
+        self.group.begin_at(writer, number);
     }
 
     /// Switches the writer with this index on or off.
