@@ -163,7 +163,8 @@ impl<'c> Listener<'c> {
         self.lines.clear();
         match self.view {
             View::News => {
-                self.put_causes(now)?;
+                self.put_new_refusal(now)?;
+                self.put_new_other(now)?;
                 self.look_all(now, false)?;
                 print_all(rt, &self.lines)
             }
@@ -175,54 +176,56 @@ impl<'c> Listener<'c> {
         }
     }
 
-    /// A line where a datagram was refused for another cause than the last before it, and one where the first came that no reader asks
-    /// for.
-    fn put_causes(&mut self, now: u64) -> Result<(), Fault>
+    /// A line where a datagram was refused for another cause than the last before it.
+    fn put_new_refusal(&mut self, now: u64) -> Result<(), Fault>
         requires { IsListener self.old }
         ensures { IsListener self.new }
     {
-        if self.is_refusal_untold {
-            self.is_refusal_untold = false;
-            fill(&mut self.lines, "#: refuses ", &[Piece::Number(now)])?;
-            self.put_last()?;
+        if !self.is_refusal_untold {
+            return Ok(());
         }
-        if self.is_other_untold {
-            self.is_other_untold = false;
-            fill(&mut self.lines, "#: ", &[Piece::Number(now)])?;
-            self.put_other()?;
-        }
-        Ok(())
+        self.is_refusal_untold = false;
+        self.put_last("#: refuses ", now)
     }
 
-    /// Why the last datagram that was refused was, and whose it was, if there was one.
-    fn put_last(&mut self) -> Result<(), Fault>
+    /// A line where the first message came that no reader asks for.
+    fn put_new_other(&mut self, now: u64) -> Result<(), Fault>
+        requires { IsListener self.old }
+        ensures { IsListener self.new }
+    {
+        if !self.is_other_untold {
+            return Ok(());
+        }
+        self.is_other_untold = false;
+        self.put_other("#: ", now)
+    }
+
+    /// Why the last datagram that was refused was, and whose it was, if there was one, after this pattern of the moment.
+    fn put_last(&mut self, pattern: &str, now: u64) -> Result<(), Fault>
         requires { IsListener self.old }
         ensures { IsListener self.new }
     {
         let Some(last) = &self.group.refused().last else {
             return Ok(());
         };
-        put_refusal(
-            &mut self.lines,
-            last,
-            &self.refused,
-            first_group(self.config),
-        )?;
+        let part = first_group(self.config);
+        fill(&mut self.lines, pattern, &[Piece::Number(now)])?;
+        put_refusal(&mut self.lines, last, &self.refused, part)?;
         Ok(put_feed(&mut self.lines)?)
     }
 
     /// Whose message came first that no reader asks for, if there was one.
-    fn put_other(&mut self) -> Result<(), Fault>
+    fn put_other(&mut self, pattern: &str, now: u64) -> Result<(), Fault>
         requires { IsListener self.old }
         ensures { IsListener self.new }
     {
-        match self.other {
-            Some(writer) => {
-                let writer = Piece::Number(u64::from(writer));
-                fill(&mut self.lines, "hears OtherWriter, writer #\n", &[writer])
-            }
-            None => Ok(()),
-        }
+        let Some(writer) = self.other else {
+            return Ok(());
+        };
+        let writer = u64::from(writer);
+        fill(&mut self.lines, pattern, &[Piece::Number(now)])?;
+        let pattern = "hears OtherWriter, writer #\n";
+        fill(&mut self.lines, pattern, &[Piece::Number(writer)])
     }
 
     /// All lines of the live view.
@@ -232,15 +235,8 @@ impl<'c> Listener<'c> {
     {
         self.look_all(now, true)?;
         self.put_counts()?;
-        if !self.cause.is_empty() {
-            fill(&mut self.lines, " last refused ", &[])?;
-            self.put_last()?;
-        }
-        if self.other.is_some() {
-            fill(&mut self.lines, " ", &[])?;
-            self.put_other()?;
-        }
-        Ok(())
+        self.put_last(" last refused ", now)?;
+        self.put_other(" ", now)
     }
 
     fn put_counts(&mut self) -> Result<(), Fault>
@@ -327,12 +323,8 @@ impl<'c> Listener<'c> {
     {
         self.lines.clear();
         self.put_all_sums(now)?;
-        let moment = Piece::Number(now);
-        if !self.cause.is_empty() {
-            fill(&mut self.lines, "#: last refused ", &[moment])?;
-            self.put_last()?;
-        }
-        fill(&mut self.lines, "#: ", &[moment])?;
+        self.put_last("#: last refused ", now)?;
+        fill(&mut self.lines, "#: ", &[Piece::Number(now)])?;
         self.put_counts()?;
         print_all(rt, &self.lines)
     }
