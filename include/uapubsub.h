@@ -244,7 +244,8 @@ struct uap_passed {
 };
 
 /* What a read group refused, since the subscriber was opened. Of the last datagram it tells whose it was, as its header has it, where the
- * status is UAP_NOT_OURS, and the token where that is unknown or old. What isn't there is 0, and its `has_..` too. */
+ * status is UAP_NOT_OURS, and the token where that is unknown or old. What isn't there is 0, and its `has_..` too. Datagrams of other groups at the
+ * same port count too, as UAP_NOT_OURS: count damaged ones by struct uap_takings. */
 struct uap_refused {
     uint64_t count;           /* how many datagrams */
     uint64_t publisher;       /* the PublisherId, where it is a number */
@@ -731,7 +732,8 @@ static inline uint32_t uap_publisher_renew(struct uap_handle *handle, uint32_t k
  *
  *     at the start:    uap_publisher_renew with the ring that it was renewed with last, if it was; uap_publisher_restore with the stored bytes,
  *                      if there are some; then save, store and tell
- *     in the loop:     save, store and tell where uap_publisher_must_store says UAP_OK, and where uap_publisher_next says UAP_UNSTORED
+ *     in the loop:     save, store and tell where uap_publisher_must_store says UAP_OK, where uap_publisher_next says UAP_UNSTORED, and each
+ *                      4,096 datagrams
  *     save and store:  uap_publisher_save; write the bytes, and have the disk keep them (uap_posix_write); uap_publisher_stored
  *
  * A program that never saves keeps its numbers itself: uap_publisher_standing, uap_publisher_resume. */
@@ -752,7 +754,8 @@ static inline uint32_t uap_publisher_stored(struct uap_handle *handle) {
 }
 
 /* UAP_OK: save and store now. A key group's numbers aren't all in store, or less than half of what was saved ahead is left, or nothing was saved.
- * UAP_NONE: there is no need. So a device that saves as soon as it has to doesn't wait for its store. */
+ * UAP_NONE: there is no need. So a device that saves as soon as it has to doesn't wait for its store. It doesn't look at message numbers, which are
+ * stored 8,192 ahead at most: save each 4,096 datagrams too, also without keys. */
 static inline uint32_t uap_publisher_must_store(struct uap_handle *handle) {
     if (handle == NULL) return UAP_NULL;
     return uapubsub_publisher_must_store(handle);
