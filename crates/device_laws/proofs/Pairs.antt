@@ -1,8 +1,7 @@
 -- Two devices: what the subscriber holds is what the publisher published.
-use Rattle.std.proofs.Common.{◌≡◌, ◌≢◌, refl, sym, ap, ◌∙◌, subst, ℕ, ◌<◌, ◌≤◌, Bool, true, false, List, [], ◌∷◌, length, inl, inr, Some}
-use Rattle.std.specs.Prelude.{◌⊎◌, ◌==◌, ◌&&◌, not, Result, Ok}
+use Rattle.std.proofs.Common.{◌≡◌, refl, sym, ap, ◌∙◌, subst, ℕ, ◌<◌, ◌≤◌, Bool, true, false, List, [], ◌∷◌, length, inl, inr, Some}
+use Rattle.std.specs.Prelude.{◌==◌, ◌&&◌, not, Result, Ok}
 use Rattle.std.specs.List.{cons_option}
-use Rattle.std.proofs.lemmas.Bool.Decides.{eqb_tells}
 use Rattle.std.proofs.lemmas.Option.{get_or_from_slice_get, slice_get-get_or}
 use Rattle.dataset_meta.specs.DataValues.{DataValue}
 use Rattle.message_guard.specs.Acceptance.{Accepted}
@@ -34,13 +33,15 @@ use Rattle.session_laws.specs.Below.{RingLaw}
 use Rattle.session_laws.specs.Pasts.{CameAsMade, IsMade}
 use Rattle.session_laws.specs.Plays.{ComesFromWriter, HoldsVersion, IsPlay, Play, its_marks, its_member, its_meta, its_way}
 use Rattle.device.specs.declared.listening.Listening.{Listening}
+use Rattle.device.specs.declared.publisher.Publisher.{Publisher}
 use Rattle.device.specs.declared.subscriber.Subscriber.{Subscriber}
 use Rattle.device.specs.Readings.{IsReaderAt}
 use Rattle.device.specs.Sides.{HasListened, TakesNumber}
 use Rattle.device_laws.specs.Devices.{ArePaired, ArePairedByOne, HasSentFew, HoldsNamed, IsCounted, member_in, play_of}
-use Rattle.device_laws.specs.Publishing.{HasOffered, PublisherLife, config_in}
+use Rattle.device_laws.specs.Publishing.{HasOffered, IsOpenPublisher, PublisherLife, config_in}
 use Rattle.device_laws.specs.Subscribing.{AreOwnKeys, AreSubscriberSteps, Came, Expired, IsOpenSubscriber, IsSubscriberCall, IsTaken, Only, Reading, Refused, Renewed, SubscriberCall, SubscriberLife, SubscriberStep, Switched, TakenAre, event_by, events, events_in, is_for, reading, readers_on, setting_in, some_if, subscriber_after, subscriber_in}
 use Rattle.device_laws.specs.Turning.{past_in}
+use Rattle.device_laws.proofs.Alike.{alike-came, alike-member, alike-same, seated}
 use Rattle.device_laws.proofs.WholeRows.{named-sent}
 use Rattle.device_laws.proofs.Heard.{keeps-member, plain-reading, stands-at, subscriber-is}
 use Rattle.device_laws.proofs.Offered.{offered-made}
@@ -112,18 +113,18 @@ answer-told text first r opened low before are now datagram left is new has take
     )
 
 module _ (text : List ℕ) (first : Subscriber) (r : ℕ) (opened : IsOpenSubscriber text first) (low : r < length first.config.readgroup) (P : List ℕ → Type 0) (config : Config) (pasts : ℕ → List GroupDeed) (makes : (datagram : List ℕ) → P datagram → IsMade config pasts datagram) where
-  abbrev S : Setting
+  abbrev pub S : Setting
   S = setting_of first.config r
 
   -- the call's answer is that of the plain reading
-  answer-is : (before : List SubscriberStep) → AreSubscriberSteps first before → AreOwnKeys before r S.setup.keys → (now : ℕ) (datagram left : List ℕ) (is : Result Taken Refusal) (new : Subscriber)
+  pub answer-is : (before : List SubscriberStep) → AreSubscriberSteps first before → AreOwnKeys before r S.setup.keys → (now : ℕ) (datagram left : List ℕ) (is : Result Taken Refusal) (new : Subscriber)
       → HasListened r now datagram left (subscriber_after first before) new is → TakesNumber r datagram (subscriber_after first before) → (on : List Bool) × (is ≡ answer S (plain S (events first before r)) now on datagram)
   answer-is before are own now datagram left is new has takes =
       let told = answer-told text first r opened low before are now datagram left is new has takes in
       (told.0, told.1 ∙ ap (λ (x : Reading). answer (with_keys S x.keys) x.value now told.0 datagram) (plain-reading first r before own))
 
   -- a datagram that the read group took
-  took-made : (list : List Event) (group now : ℕ) (datagram : List ℕ) (is : Result Taken Refusal) (on : List Bool) (opens : Opened) → is ≡ answer S (plain S list) now on datagram → group ≡ r
+  pub took-made : (list : List Event) (group now : ℕ) (datagram : List ℕ) (is : Result Taken Refusal) (on : List Bool) (opens : Opened) → is ≡ answer S (plain S list) now on datagram → group ≡ r
       → IsTaken (Came group now datagram is) r P → verdict S.group S.setup (accepted S list) datagram ≡ Ok opens → IsMade config pasts datagram
   took-made list group now datagram is on opens told hit has e =
       let G = plain S list in
@@ -175,9 +176,9 @@ module _ (ring : RingLaw) (text other : List ℕ) (pl : PublisherLife) (sl : Sub
   abbrev its_few : ℕ → Type 0
   its_few most = HasSentFew most pl g w
 
-  came : CameAsMade (setting_by (config_in pl) readers) (config_in pl) (past_in pl) (events_in sl r)
+  pub came : CameAsMade (setting_by (config_in pl) readers) (config_in pl) (past_in pl) (events_in sl r)
   came =
-      subst (λ (s : Setting). CameAsMade s (config_in pl) (past_in pl) (events_in sl r)) are.set_as
+      alike-came i (setting_in sl r) (setting_by (config_in pl) readers) are.alike (config_in pl) (past_in pl) (events_in sl r)
       (came-made other sl.first r are.subscriber.opened are.read_there (HasOffered pl.steps) (config_in pl) (past_in pl)
       (λ datagram has. offered-made text pl.first are.publisher.opened pl.steps are.publisher.steps_are datagram has) sl.steps are.subscriber.steps_are are.keys are.took)
 
@@ -200,7 +201,7 @@ module _ (ring : RingLaw) (text other : List ℕ) (pl : PublisherLife) (sl : Sub
   pub member-is : member_in sl r i ≡ its_member p
   member-is =
       ap (λ (x : Reading). member_at x.value.members i) (plain-reading sl.first r sl.steps are.keys)
-      ∙ ap (λ (s : Setting). member_at (plain s (events_in sl r)).members i) are.set_as
+      ∙ alike-member i (setting_in sl r) (setting_by (config_in pl) readers) are.alike (seated (config_in pl) readers i are.matched.within) (events_in sl r)
 
   pub keeps-by : PlayLaws → HasSentFew 16385 pl g w → MemberIs (its_way p) (its_marks p) (member_in sl r i)
   keeps-by laws few = subst (MemberIs (its_way p) (its_marks p)) (sym member-is) (laws.keeps p (is-play 16385 few))
@@ -224,15 +225,19 @@ module _ (ring : RingLaw) (text other : List ℕ) (pl : PublisherLife) (sl : Sub
 some-ok : {A B : Type 0} (x y : A) → Path (Result A B) (Ok x) (Ok y) → x ≡ y
 some-ok x y e = cc
 
+pub same-config : (text : List ℕ) (publisher : Publisher) (subscriber : Subscriber) → IsOpenPublisher text publisher → IsOpenSubscriber text subscriber → subscriber.config ≡ publisher.config
+same-config text publisher subscriber one other = some-ok subscriber.config publisher.config (sym other.config_is ∙ one.config_is)
+
 pub one-text : (text : List ℕ) (pl : PublisherLife) (sl : SubscriberLife) (r i g w : ℕ) → ArePairedByOne text pl sl r i g w → ArePaired text text pl sl (read_group_at (config_in pl) r) r i g w
 one-text text pl sl r i g w are =
-    let same : sl.first.config ≡ config_in pl = some-ok sl.first.config (config_in pl) (sym are.subscriber.opened.config_is ∙ are.publisher.opened.config_is) in
+    let same : sl.first.config ≡ config_in pl = same-config text pl.first sl.first are.publisher.opened are.subscriber.opened in
     record {
       publisher = are.publisher;
       subscriber = are.subscriber;
       there = are.there;
       read_there = are.read_there;
-      set_as = ap (λ (c : Config). setting_of c r) same;
+      alike = alike-same i (setting_in sl r) (setting_of (config_in pl) r) (ap (λ (c : Config). setting_of c r) same)
+          (seated (config_in pl) (read_group_at (config_in pl) r) i are.matched.within);
       matched = are.matched;
       rings = are.rings;
       keys = are.keys;
