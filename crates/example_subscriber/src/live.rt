@@ -68,7 +68,8 @@ impl Mark {
     ) -> Result<(), Fault>
         requires { IsReaderOf glance.now.meta.now glance.now.reader.now }
     {
-        self.put_counts(out, now, glance, state_of(standing))?;
+        self.put_standing(out, glance.part.name.as_str(), state_of(standing))?;
+        self.put_times(out, now, glance)?;
         match glance.reader.row() {
             Some(row) => put_row(out, glance.meta, row)?,
             None => put_waits(out, glance.reader.why())?,
@@ -81,28 +82,35 @@ impl Mark {
         Ok(())
     }
 
-    fn put_counts(
+    fn put_standing(
         &self,
         out: &mut Vec<u8>,
-        now: u64,
-        glance: &Glance<'_>,
-        state: &str,
+        name: &str,
+        state: &'static str,
     ) -> Result<(), Fault> {
-        fill(out, glance.part.name.as_str(), &[])?;
+        fill(out, name, &[])?;
         fill(out, " # number ", &[Piece::Word(state)])?;
         match self.number {
-            Some(number) => fill(out, "#", &[Piece::Number(u64::from(number))])?,
-            None => fill(out, "-", &[])?,
+            Some(number) => fill(out, "#", &[Piece::Number(u64::from(number))]),
+            None => fill(out, "-", &[]),
         }
-        let (major, minor) = (glance.meta.major(), glance.meta.minor());
-        let (major, minor) = (u64::from(major), u64::from(minor));
+    }
+
+    fn put_times(&self, out: &mut Vec<u8>, now: u64, glance: &Glance<'_>) -> Result<(), Fault> {
+        let major = u64::from(glance.meta.major());
+        let minor = u64::from(glance.meta.minor());
         let age = now.saturating_sub(glance.notice.seen.unwrap_or(0));
-        let lost = glance.notice.lost;
-        let version = [Piece::Number(major), Piece::Number(minor)];
-        fill(out, " version #.#", &version)?;
-        let times = [Piece::Number(age), Piece::Number(self.rate)];
-        fill(out, " age # ms, # a second", &times)?;
-        fill(out, ", lost #\n", &[Piece::Number(lost)])
+        fill(
+            out,
+            " version #.# age # ms, # a second, lost #\n",
+            &[
+                Piece::Number(major),
+                Piece::Number(minor),
+                Piece::Number(age),
+                Piece::Number(self.rate),
+                Piece::Number(glance.notice.lost),
+            ],
+        )
     }
 }
 
