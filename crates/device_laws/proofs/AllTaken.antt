@@ -1,5 +1,5 @@
 -- A datagram that comes to all read groups comes to each of them, which no other call of it changes.
-use Rattle.std.proofs.Common.{◌≡◌, ◌≢◌, refl, sym, ap, ◌∙◌, subst, arith, ℕ, zero, suc, ◌<◌, ◌≤◌, List, [], ◌∷◌, get_or, set, inl, inr, Option, Some, None}
+use Rattle.std.proofs.Common.{◌≡◌, ◌≢◌, refl, ap, ◌∙◌, subst, arith, ℕ, zero, suc, ◌<◌, ◌≤◌, List, [], ◌∷◌, get_or, set, inl, inr, Option, Some, None}
 use Rattle.std.specs.Prelude.{◌⊎◌, slice_get, slice_index_or, Result, Ok, Err}
 use Rattle.std.proofs.lemmas.Bool.{cases_lt}
 use Rattle.reader_group.specs.declared.refusal.Refusal.{Refusal}
