@@ -47,7 +47,7 @@ impl Publisher {
 
     /// Whether a program has to save: of some key group the numbers that were used aren't in store, or less than half of what was
     /// reserved ahead is left. It is true also where nothing is in store, if there is a key group. A program that saves as soon as it is
-    /// true doesn't have to wait for its store.
+    /// true doesn't have to wait for its store. Message numbers don't count: without a key group it is never true.
     pub fn must_store(&self) -> bool
         requires { IsPublisher self.now }
         ensures must { OnTrue result (FallsShort self.now) }
