@@ -1,4 +1,5 @@
 mod Alike
+mod AllTaken
 mod AnyLength
 mod Counting
 mod Doing

@@ -60,6 +60,7 @@ rings-among config k (step ∷ before) own = (one-among config k step.call own.0
 
 keys-among : (r : ℕ) (all : List KeySet) (own : List TokenKeys) (call : SubscriberCall) → AreKeysAmong all own → KeepsKeys call r own → KeysAreAmong r all call
 keys-among r all own (reads.Came group now datagram answer) are keeps = tt
+keys-among r all own (reads.Took now datagram answers) are keeps = tt
 keys-among r all own (reads.Expired now) are keeps = tt
 keys-among r all own (reads.Switched group reader on) are keeps = tt
 keys-among r all own (reads.Renewed group new) are keeps = λ e. subst (AreKeysAmong all) (sym (keeps e)) are

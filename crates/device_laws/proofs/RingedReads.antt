@@ -49,7 +49,7 @@ use Rattle.device_laws.specs.Deeds.{deeds_in}
 use Rattle.device_laws.specs.Devices.{HoldsWhole, IsCounted, member_in}
 use Rattle.device_laws.specs.Publishing.{HasOffered, PublisherLife, config_in}
 use Rattle.device_laws.specs.Ringed.{AllKeysAreAmong, AreKeysAmong, ComesRinged, HoldsRinged, IsRingedPair, KeysAreAmong, ReadsRinged, RingsAreAmong, marks_of, ringed_way}
-use Rattle.device_laws.specs.Subscribing.{AreSubscriberSteps, Came, Expired, IsOpenSubscriber, IsSubscriberCall, IsTaken, Only, Reading, Refused, Renewed, SubscriberCall, SubscriberLife, SubscriberStep, Switched, TakenAre, event_by, is_for, keys_by, read_if, reading, readers_on, setting_in, some_if, subscriber_after}
+use Rattle.device_laws.specs.Subscribing.{AreSubscriberSteps, Came, Expired, IsOpenSubscriber, IsSubscriberCall, IsTaken, Only, Reading, Refused, Renewed, SubscriberCall, SubscriberLife, SubscriberStep, Switched, TakenAre, Took, event_by, is_for, keys_by, read_if, reading, readers_on, setting_in, some_if, subscriber_after, takes_at}
 use Rattle.device_laws.specs.Turning.{past_in}
 use Rattle.device_laws.proofs.Alike.{alike-keys, alike-marks, alike-member, seated}
 use Rattle.device_laws.proofs.AnyLength.{held-row}
@@ -58,7 +58,7 @@ use Rattle.device_laws.proofs.Heard.{keeps-member, stands-at}
 use Rattle.device_laws.proofs.Reaching.{Tells, reach}
 use Rattle.device_laws.proofs.Offered.{offered-made}
 use Rattle.device_laws.proofs.Owning.{are-deeds}
-use Rattle.device_laws.proofs.Pairs.{answer-told, restarts-on, taken-with}
+use Rattle.device_laws.proofs.Pairs.{answer-told, restarts-on, taken-with, took-told}
 use Rattle.device_laws.proofs.Ringing.{IsRinged, ring-keeps}
 use Rattle.device_laws.proofs.Rows.{has-rows}
 use Rattle.device_laws.proofs.Told.{AreTold, told-so}
@@ -99,6 +99,7 @@ module _ (text : List ℕ) (first : Subscriber) (r : ℕ) (opened : IsOpenSubscr
 
   keys-on : (call : SubscriberCall) (rd : Reading) (list : List Mark) → KeysAreAmong r all call → IsSoFar rd list → IsSoFar (record rd { keys = keys_by call r rd.keys }) list
   keys-on (Came group now datagram answer) rd list among h = h
+  keys-on (Took now datagram answers) rd list among h = h
   keys-on (Expired now) rd list among h = h
   keys-on (Switched group reader on) rd list among h = h
   keys-on (Renewed group keys) rd list among h = keys-if group keys rd list (group == r) (eqb_tells group r) among h
@@ -134,6 +135,11 @@ module _ (text : List ℕ) (first : Subscriber) (r : ℕ) (opened : IsOpenSubscr
       (λ hit opens e.
       let told = answer-told text first r opened low before are now datagram has.0 is new (subst (λ (k : ℕ). HasListened k now datagram has.0 old new is) hit.0 has.1) hit.1 in
       came-made rd group now datagram is told.0 opens told.1 hit.0 taken e)
+  taken-on before are (Took now datagram answers) new has taken =
+      let old = subscriber_after first before in
+      let rd = reading first before r in
+      let t = took-told text first r opened low before are now datagram answers new P has taken in
+      taken-if rd r now datagram (readers_on old r) (takes_at old r datagram) t.tells (λ told opens e. came-made rd r now datagram t.given told.0 opens told.1 refl t.taken e)
   taken-on before are (Expired now) new has taken = tt
   taken-on before are (Switched group reader on) new has taken = stopped-if (reading first before r) ((group == r) && not on) reader
   taken-on before are (Renewed group keys) new has taken = tt

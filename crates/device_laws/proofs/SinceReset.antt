@@ -17,7 +17,7 @@ use Rattle.reader_group.specs.Arrivals.{Mark, Way, accepted, arrivals_in}
 use Rattle.reader_group.specs.Members.{no_seat, seat_at}
 use Rattle.reader_group.specs.Opening.{Opened, verdict}
 use Rattle.reader_group.specs.Plain as befalls
-use Rattle.reader_group.specs.Plain.{Event, Setting, member_at, plain}
+use Rattle.reader_group.specs.Plain.{Event, Setting, answer, member_at, plain, with_keys}
 use Rattle.reader_group.specs.Settings.{setting_by, setting_of}
 use Rattle.reader_group.proofs.Answered.{StepKeeps}
 use Rattle.writer_group.specs.Parts.{group_at, no_group}
@@ -34,13 +34,13 @@ use Rattle.device_laws.specs.Devices.{HoldsWhole, IsCounted, member_in, play_of}
 use Rattle.device_laws.specs.Placed.{AreAllNear, ComesPlaced}
 use Rattle.device_laws.specs.Publishing.{HasOffered, PublisherLife, config_in}
 use Rattle.device_laws.specs.Since.{ArePairedSince, ComesAnsweredSince}
-use Rattle.device_laws.specs.Subscribing.{AreOwnKeys, AreSubscriberSteps, Came, Expired, IsOpenSubscriber, IsSubscriberCall, IsTaken, Only, Reading, Refused, Renewed, SubscriberCall, SubscriberLife, SubscriberStep, Switched, TakenAre, event_by, events, events_in, is_for, readers_on, setting_in, some_if, subscriber_after, subscriber_in}
+use Rattle.device_laws.specs.Subscribing.{AreOwnKeys, AreSubscriberSteps, Came, Expired, IsOpenSubscriber, IsSubscriberCall, IsTaken, Only, Reading, Refused, Renewed, SubscriberCall, SubscriberLife, SubscriberStep, Switched, TakenAre, Took, event_by, events, events_in, is_for, readers_on, setting_in, some_if, subscriber_after, subscriber_in, takes_at}
 use Rattle.device_laws.specs.Turning.{past_in}
 use Rattle.device_laws.proofs.Alike.{alike-accepted, alike-member, alike-verdict, seated}
 use Rattle.device_laws.proofs.AnyLength.{held-since}
 use Rattle.device_laws.proofs.Heard.{keeps-member, plain-reading, stands-at}
 use Rattle.device_laws.proofs.Offered.{offered-made}
-use Rattle.device_laws.proofs.Pairs.{answer-is, are-restarts, took-made}
+use Rattle.device_laws.proofs.Pairs.{answer-is, are-restarts, took-made, took-told}
 use Rattle.device_laws.proofs.PlacedItems.{CameSince, reset-list, since-list}
 use Rattle.device_laws.proofs.PlacedReads.{placed-read}
 use Rattle.device_laws.proofs.Publishes.{is-past}
@@ -95,6 +95,14 @@ module _ (text : List ℕ) (first : Subscriber) (r i : ℕ) (opened : IsOpenSubs
       (λ hit opens e.
       let told = answer-is text first r opened low P config pasts makes before are own now datagram has.0 is new (subst (λ (k : ℕ). HasListened k now datagram has.0 old new is) hit.0 has.1) hit.1 in
       took-made text first r opened low P config pasts makes list group now datagram is told.0 opens told.1 hit.0 taken e) h
+  since-on before are own (Took now datagram answers) new has taken h =
+      let old = subscriber_after first before in
+      let list = events first before r in
+      let t = took-told text first r opened low before are now datagram answers new P has taken in
+      got-if list now (readers_on old r) datagram (takes_at old r datagram) t.tells
+      (λ told opens e.
+      took-made text first r opened low P config pasts makes list r now datagram t.given told.0 opens
+      (told.1 ∙ ap (λ (x : Reading). answer (with_keys ours x.keys) x.value now told.0 datagram) (plain-reading first r before own)) refl t.taken e) h
   since-on before are own (Expired now) new has taken h =
       record { more = befalls.Expired now ∷ h.more; is = ap (λ (l : List Event). befalls.Expired now ∷ l) h.is; came = h.came }
   since-on before are own (Switched group reader on) new has taken h = stopped-if (events first before r) ((group == r) && not on) reader h
