@@ -161,7 +161,8 @@ struct uap_handle {
 /* Where a configuration that is refused is at fault. */
 struct uap_place {
     uint32_t code;  /* the number of the fault: 1 of C1 BadToml, and so on (docs/CONFIGURATION.md) */
-    size_t line;    /* the line, from 1: of C1 that where the reader of TOML ended, else where the table begins that is at fault */
+    size_t line;    /* the line, from 1: of C1 that where the reader of TOML ended; else the first with which the text up to it has the table that
+                     * is at fault, or the last line where none has */
 };
 
 /* The keys of one token. An AES-128 key is the first 16 bytes of `encrypting`. The moment `from_ms` is of the clock of `now_ms`. */
@@ -730,50 +731,59 @@ static inline uint32_t uap_publisher_renew(struct uap_handle *handle, uint32_t k
  *
  * No token and number may come twice, nor over restarts. So a device stores bytes before it sends, and goes on after them:
  *
- *     at the start:    uap_publisher_renew with the ring that it was renewed with last, if it was; uap_publisher_restore with the stored bytes,
- *                      if there are some; then save, store and tell
+ *     at the start:    before the first uap_publisher_next: uap_publisher_renew with the ring that it had last, by the moments of this clock;
+ *                      uap_publisher_restore with the bytes that were stored last, before any save; then save, store and tell
  *     in the loop:     save, store and tell where uap_publisher_must_store says UAP_OK, where uap_publisher_next says UAP_UNSTORED, and each
  *                      4,096 datagrams
- *     save and store:  uap_publisher_save; write the bytes, and have the disk keep them (uap_posix_write); uap_publisher_stored
+ *     save and store:  uap_publisher_save; write the bytes, and have the disk keep them (uap_posix_write); only if that went well
+ *                      uap_publisher_stored, before another save
+ *
+ * Where uap_publisher_restore answers another status than UAP_OK, or the file is there and can't be read, what was used isn't known. Then save
+ * nothing and send nothing of secured groups, until the right bytes are restored, or the key groups have later tokens than those used before.
  *
  * A program that never saves keeps its numbers itself: uap_publisher_standing, uap_publisher_resume. */
 
 /* Lays UAP_STATE_BYTES bytes to store at the front of the buffer, and `length` is how many: of each key group the token in use and a number
  * `ahead` after the one used last, or what is in store where that is later; of each writer a message number as far ahead, 8,192 at most. From now
- * on a datagram of a secured group is given only where the numbers that its key group used are in store; else it waits (UAP_UNSTORED). UAP_ROOM:
- * the buffer is too short. */
+ * on a datagram of a secured group is given only where the numbers that its key group used are in store; else it waits (UAP_UNSTORED). As long as
+ * one waits no group has a turn, also none without keys, and uap_publisher_due tells `now_ms`. Before the first save nothing is withheld. Each
+ * restart passes `ahead` numbers over. Let it be 8,192 at most or 32,768 at least, and twice what is sent while the disk works. UAP_ROOM: the
+ * buffer is too short. */
 static inline uint32_t uap_publisher_save(struct uap_handle *handle, uint32_t ahead, void *buffer, size_t room, size_t *length) {
     if (handle == NULL || buffer == NULL || length == NULL) return UAP_NULL;
     return uapubsub_publisher_save(handle, ahead, UAP_BYTES(buffer), room, length);
 }
 
-/* The bytes that uap_publisher_save laid last are in store: written, and kept by the disk. Where nothing was saved nothing changes. */
+/* The bytes that uap_publisher_save laid last are in store: written, and kept by the disk. Call it before another save: it tells of the last
+ * bytes alone. Where nothing was saved nothing changes. */
 static inline uint32_t uap_publisher_stored(struct uap_handle *handle) {
     if (handle == NULL) return UAP_NULL;
     return uapubsub_publisher_stored(handle);
 }
 
-/* UAP_OK: save and store now. A key group's numbers aren't all in store, or less than half of what was saved ahead is left, or nothing was saved.
- * UAP_NONE: there is no need. So a device that saves as soon as it has to doesn't wait for its store. It doesn't look at message numbers, which are
- * stored 8,192 ahead at most: save each 4,096 datagrams too, also without keys. */
+/* UAP_OK: save and store now. A key group's numbers aren't all in store, or less than half of what was saved ahead is left, or nothing is in
+ * store. UAP_NONE: there is no need, as always where there is no key group; message numbers don't
+ * count, so save each 4,096 datagrams too. So a device that saves as soon as it has
+ * to doesn't wait for its store, but for a datagram that is made as a token changes: come at the key's moment (uap_publisher_due), and save then. */
 static inline uint32_t uap_publisher_must_store(struct uap_handle *handle) {
     if (handle == NULL) return UAP_NULL;
     return uapubsub_publisher_must_store(handle);
 }
 
-/* Goes on after stored bytes: each key group with the last of its key sets whose moment has come, after the stored number where that is the
+/* Goes on after stored bytes, before the first uap_publisher_next: what was made before isn't after the stored numbers, and is sent all the same.
+ * Each key group with the last of its key sets whose moment has come, after the stored number where that is the
  * stored token; each writer, of a group without a turn, at its stored message number. Until the next uap_publisher_stored nothing more is given of
  * secured groups. UAP_DAMAGED: they aren't bytes of uap_publisher_save. UAP_OTHER_CONFIG: they are of a configuration with another PublisherId, or
  * other groups, writers, key groups or data sets. UAP_LATER_TOKEN: they have a later token of a key group than its key sets have at this moment:
- * give it the last ring first (uap_publisher_renew). With each of these nothing changes. */
+ * give it the last ring first (uap_publisher_renew), or the clock was set back. With each of these nothing changes. */
 static inline uint32_t uap_publisher_restore(struct uap_handle *handle, uint64_t now_ms, const void *bytes, size_t length) {
     if (handle == NULL || bytes == NULL) return UAP_NULL;
     return uapubsub_publisher_restore(handle, now_ms, UAP_TEXT(bytes), length);
 }
 
 /* What stored bytes say: the token of a key group, the number under it that a restart goes on after, and the message number at which a writer
- * begins then. Where the configuration has no such key group or writer it is 0. UAP_DAMAGED, as above. UAP_INDEX: it is past the 4 key groups, 4
- * groups and 16 writers of a configuration. */
+ * begins then. Where the configuration has no such key group or writer nothing is said of it. UAP_DAMAGED, as above. UAP_INDEX: it is past the 4
+ * key groups, 4 groups and 16 writers of a configuration. */
 static inline uint32_t uap_state_token(const void *bytes, size_t length, uint32_t keygroup, uint32_t *token) {
     if (bytes == NULL || token == NULL) return UAP_NULL;
     return uapubsub_state_token(UAP_TEXT(bytes), length, keygroup, token);
@@ -975,7 +985,8 @@ static inline uint32_t uap_read_group_only(struct uap_handle *handle, uint32_t g
 }
 
 /* All datagrams that are due, laid one behind another into `buffer`, with their lengths, at most `most`. Whatever the status but UAP_NULL,
- * `count` of them were laid, and are to be sent. UAP_NONE: that was all. UAP_SPENT: that was all of the groups that may have a turn.
+ * `count` of them were laid, and are to be sent. UAP_NONE: that was all. UAP_SPENT: that was all of the groups that may have a turn. UAP_UNSTORED:
+ * the next one waits for the store.
  * UAP_ROOM: there were `most`, or the next one has no room behind them: send these, and call again. UAP_ROOM with none: the buffer is too
  * short for the next one, or `most` is 0. */
 static inline uint32_t uap_publisher_tick(struct uap_handle *handle, uint64_t now_ms, void *buffer, size_t room, size_t *lengths, size_t most,

@@ -264,18 +264,18 @@ public:
     Status renew(std::uint32_t keygroup, std::span<const uap_key_set> sets) { return uap_publisher_renew(raw(), keygroup, sets.data(), sets.size()); }
 
     // The bytes to store: numbers so far ahead. From now on `next` has UAP_UNSTORED where a datagram's number isn't in store.
-    Result<State> save(std::uint32_t ahead) {
+    [[nodiscard]] Result<State> save(std::uint32_t ahead) {
         State it = {};
         std::size_t length = 0;
         if (const Status status = uap_publisher_save(raw(), ahead, it.data(), it.size(), &length); !status) return status;
         return it;
     }
     // The bytes of the last `save` are in store.
-    Status stored() { return uap_publisher_stored(raw()); }
+    [[nodiscard]] Status stored() { return uap_publisher_stored(raw()); }
     // Whether to save and store now.
     bool must_store() const { return uap_publisher_must_store(raw()) == UAP_OK; }
     // Goes on after stored bytes.
-    Status restore(std::uint64_t now_ms, std::span<const std::uint8_t> bytes) { return uap_publisher_restore(raw(), now_ms, bytes_of(bytes.data()), bytes.size()); }
+    [[nodiscard]] Status restore(std::uint64_t now_ms, std::span<const std::uint8_t> bytes) { return uap_publisher_restore(raw(), now_ms, bytes_of(bytes.data()), bytes.size()); }
     // The first data message of a writer has this number. UAP_BEGUN: its group had a turn.
     Status begin_at(Writer it, std::uint16_t number) { return uap_writer_begin_at(raw(), it.group, it.index, number); }
 

@@ -23,6 +23,7 @@ use Rattle.device.specs.declared.publisher.Publisher.{Publisher}
 use Rattle.device.specs.declared.side.Side.{Side}
 use Rattle.device.specs.declared.store.Saved.{Saved as SavedState}
 use Rattle.writer_group.specs.Parts.{group_at}
+use Rattle.writer_group.proofs.Needs.{room-begun}
 use Rattle.device.proofs.Placing.{placed-set, sides-begun}
 use Rattle.device.proofs.Rings.{ring-at}
 use Rattle.device.proofs.Sending.{no_sender}
@@ -141,7 +142,7 @@ begun-publisher old new group writer number was is r low was_is new_is sides goo
       sides_are = subst (λ (l : List Side). All (IsSide (config_beginning group writer number old.config)) l) (sym sides)
           (sides-begun writer number old.config old.sides.items group is low r.places r.sides_are side);
       places = subst ArePlaced (sym sides) (placed-set old.sides.items group was is low was_is same r.places);
-      reserved = r.reserved;
+      reserved = room-begun old.config group writer number old.out r.reserved;
       made_is = r.made_is;
       handed_is = r.handed_is;
     })

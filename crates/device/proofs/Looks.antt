@@ -7,7 +7,7 @@ use Rattle.std.proofs.lemmas.List.{get_or-set_same, get_or_read, length-set, len
 use Rattle.std.proofs.lemmas.List.Elements.{All-nil, All-push, Contains-append_left, Contains-push}
 use Rattle.message_guard.specs.Senders.{IsSender, SenderState}
 use Rattle.ps_config.specs.declared.parts.Config.{Config}
-use Rattle.writer_group.specs.Standing.{IsReserved, datagrams_in}
+use Rattle.writer_group.specs.Standing.{HasRoom, datagrams_in}
 use Rattle.writer_group.specs.declared.datagrams.Datagrams.{Datagrams}
 use Rattle.writer_group.specs.declared.sampled.Sampled.{Sampled}
 use Rattle.device.specs.Coming.{AllDid, Did, Does, HasItsTurn, HasMadeSome, HaveAllDone, IsPassed, IsQuiet}
@@ -57,7 +57,7 @@ did-index config now rows senders out (Made made) was is did = did.turned.index
 
 pub looked-publisher : (looked : Looked) (old mid new : Publisher) → IsPublisher old → IsBut old mid → IsCounted mid new → Counts looked mid new → LeavesOut looked old.out mid.out
     → All IsSender mid.senders.items → length mid.senders.items ≡ length old.senders.items → AllZip HasRing mid.senders.items old.rings.items → All (IsSide old.config) mid.sides.items
-    → ArePlaced mid.sides.items → IsReserved mid.out → IsPublisher new
+    → ArePlaced mid.sides.items → HasRoom old.config mid.out → IsPublisher new
 looked-publisher looked old mid new is but counted counts leaves senders count rings sides places reserved =
     let on = counts-on looked old mid new but counts in
     subst IsPublisher (sym (but-counted old mid new but counted))

@@ -32,7 +32,7 @@ use Rattle.writer_group.specs.declared.group.Group.{Group}
 use Rattle.writer_group.specs.declared.sampled.Sampled.{Sampled}
 use Rattle.writer_group.specs.Parts.{group_at}
 use Rattle.writer_group.specs.Sealing.{advanced_by}
-use Rattle.writer_group.specs.Standing.{AreLogged, AreRowsOf, HasTickedAt, IsFreshAt, IsGood, IsRefreshed, IsReserved, KeepsTo, MayTickAt, MayTurnAt, datagrams_in, index_of, input_of, writer_count}
+use Rattle.writer_group.specs.Standing.{AreLogged, AreRowsOf, HasRoom, HasTickedAt, IsFreshAt, IsGood, IsRefreshed, KeepsTo, MayTickAt, MayTurnAt, datagrams_in, index_of, input_of, writer_count}
 use Rattle.device.specs.declared.listening.Listening.{Listening}
 use Rattle.device.specs.declared.publisher.Publisher.{Publisher}
 use Rattle.device.specs.declared.side.Side.{Side}
@@ -139,7 +139,7 @@ pub record IsPublisher (publisher : Publisher) : Type 0 where
   pub rings_are : AllZip HasRing publisher.senders.items publisher.rings.items
   pub sides_are : All (IsSide publisher.config) publisher.sides.items
   pub places : ArePlaced publisher.sides.items
-  pub reserved : IsReserved publisher.out
+  pub reserved : HasRoom publisher.config publisher.out
   pub made_is : publisher.made ≡ length (datagrams_in publisher.out)
   pub handed_is : publisher.handed ≤ publisher.made
 

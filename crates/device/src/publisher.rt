@@ -7,7 +7,7 @@ ghost use Rattle.ps_config.specs.Reading.{configuration, IsEnd};
 ghost use Rattle.ps_config.specs.Types.{HasTypes};
 ghost use Rattle.row_words.specs.Setting.{HasStatus, HasValue};
 ghost use Rattle.row_words.specs.Words.{scalar_in};
-ghost use Rattle.writer_group.specs.Standing.{IsGood, IsReserved, datagrams_in};
+ghost use Rattle.writer_group.specs.Standing.{IsGood, datagrams_in};
 ghost use Rattle.device.specs.Coming.{Comes, HasCome, IsWaiting};
 ghost use Rattle.device.specs.Due.{IsCalm, IsDue, IsSpentAt, TellsFirst};
 ghost use Rattle.device.specs.Looking.{Counts, HasLooked, IsFrom};
@@ -483,7 +483,7 @@ fn publisher_of(alloc: Global, config: Config) -> Result<Publisher, NoMemory>
     let senders = senders_of(alloc, config.keygroup.as_slice())?;
     let rings = rings_of(alloc, config.keygroup.as_slice())?;
     let sides = sides_of(alloc, &config)?;
-    let out = Datagrams::new(alloc)?;
+    let out = Datagrams::for_config(alloc, &config)?;
     Ok(Publisher {
         config,
         rows,

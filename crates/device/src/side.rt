@@ -4,7 +4,7 @@ ghost use Rattle.std.specs.Bool.{OnFalse, OnTrue};
 ghost use Rattle.message_guard.specs.Senders.{IsSender};
 ghost use Rattle.ps_config.specs.declared.parts.Config.{Config as ConfigValue};
 ghost use Rattle.writer_group.specs.Parts.{group_at};
-ghost use Rattle.writer_group.specs.Standing.{AreRowsOf, IsGood, IsReserved, KeepsTo, TellsDue, TellsMoment, TellsNextNumber, index_of, writer_count};
+ghost use Rattle.writer_group.specs.Standing.{AreRowsOf, HasRoom, IsGood, KeepsTo, TellsDue, TellsMoment, TellsNextNumber, index_of, writer_count};
 ghost use Rattle.device.specs.Coming.{AreRefreshed, all_writers};
 ghost use Rattle.device.specs.Due.{HasTurnDue, SitsOut, TellsFirst};
 ghost use Rattle.ps_config.specs.Beginning.{config_beginning};
@@ -201,10 +201,10 @@ impl Side {
         requires side { IsSide config.now self.old }
         requires rows { AreRowsOf config.now.dataset rows.now }
         requires senders { All IsSender senders.old }
-        requires reserved { IsReserved out.old }
+        requires reserved { HasRoom config.now out.old }
         ensures side { IsSide config.now self.new }
         ensures senders { All IsSender senders.new }
-        ensures reserved { IsReserved out.new }
+        ensures reserved { HasRoom config.now out.new }
         ensures turned { IfSome result (HasTurned config.now moment rows.now
             (sender_for config.now senders.old self.old.index) self.old self.new out.new) }
         ensures not { IfNone result (self.new ≡ self.old) }
@@ -238,9 +238,9 @@ impl Side {
         requires good { IsGood config.now }
         requires side { IsSide config.now self.old }
         requires rows { AreRowsOf config.now.dataset rows.now }
-        requires reserved { IsReserved out.old }
+        requires reserved { HasRoom config.now out.old }
         ensures side { IsSide config.now self.new }
-        ensures reserved { IsReserved out.new }
+        ensures reserved { HasRoom config.now out.new }
         ensures turned { IfSome result (HasTurned config.now moment rows.now None
             self.old self.new out.new) }
         ensures not { IfNone result (self.new ≡ self.old) }
@@ -253,7 +253,7 @@ impl Side {
         let metas = config.dataset.as_slice();
         Some(
             self.group
-                .tick(config, metas, moment, rows, &self.on, None, false, out),
+                .tick_within(config, metas, moment, rows, &self.on, None, false, out),
         )
     }
 
@@ -270,10 +270,10 @@ impl Side {
         requires side { IsSide config.now self.old }
         requires rows { AreRowsOf config.now.dataset rows.now }
         requires sender { IsSender sender.old }
-        requires reserved { IsReserved out.old }
+        requires reserved { HasRoom config.now out.old }
         ensures side { IsSide config.now self.new }
         ensures sender { IsSender sender.new }
-        ensures reserved { IsReserved out.new }
+        ensures reserved { HasRoom config.now out.new }
         ensures turned { IfSome result (HasTurned config.now moment rows.now (Some sender.old)
             self.old self.new out.new) }
         ensures not { IfNone result (self.new ≡ self.old) }
@@ -291,7 +291,7 @@ impl Side {
         let sender = Some(sender);
         Some(
             self.group
-                .tick(config, metas, moment, rows, &self.on, sender, false, out),
+                .tick_within(config, metas, moment, rows, &self.on, sender, false, out),
         )
     }
 }

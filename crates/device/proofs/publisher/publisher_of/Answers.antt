@@ -22,7 +22,7 @@ returns-clause-publisher c =
           (subst (λ (l : List KeyGroupPart). AllZip IsConfiguredRing l rings) c.as_slice-3.ensures c.in_ok-rings.ensures.opening);
       sides_are = c.in_ok-sides.ensures.sides;
       places = placed-opening c.args.config c.in_ok-sides.sides.items c.in_ok-sides.ensures.opening;
-      reserved = c.in_ok-out.ensures.reserved;
+      reserved = c.in_ok-out.ensures.room;
       made_is = sym (ap (λ (l : List (List ℕ)). length l) c.in_ok-out.ensures.none);
       handed_is = omega arith;
     }
