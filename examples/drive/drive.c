@@ -88,18 +88,19 @@ static void open_sides(struct drive *drive, const char *config) {
 
 // ---- keys and numbers
 
-// Both sides go on with new keys. A read group without keys has no need of them.
+// Both sides go on with new keys, but a read group without keys.
 static bool renew(struct drive *drive, uint64_t now) {
     const struct plant_keys *keys = &drive->keys;
     size_t groups = 0;
-    uint32_t status = UAP_OK;
     if (!plant_keys_came(&drive->keys, now)) return false;
-    status = uap_publisher_renew(&drive->publisher, 0, keys->sets, keys->count);
+    uint32_t status = uap_publisher_renew(&drive->publisher, 0, keys->sets, keys->count);
     uap_read_group_count(&drive->subscriber, &groups);
-    for (uint32_t group = 0; group < groups && (status == UAP_OK || status == UAP_INDEX); group++)
+    for (uint32_t group = 0; group < groups && status == UAP_OK; group++) {
         status = uap_subscriber_renew(&drive->subscriber, group, keys->sets, keys->count);
+        if (status == UAP_INDEX) status = UAP_OK;
+    }
     plant_log("keys %s: tokens %" PRIu32 " to %" PRIu32, uap_status_name(status), keys->sets[0].token, keys->sets[keys->count - 1].token);
-    return status == UAP_OK || status == UAP_INDEX;
+    return status == UAP_OK;
 }
 
 // Has the disk keep what is used, and a reserve, before any of it is sent.

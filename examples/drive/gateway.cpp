@@ -101,15 +101,18 @@ private:
 
     // ---- keys and numbers
 
-    // Both sides go on with new keys. A read group without keys has no need of them.
+    // Both sides go on with new keys, but a read group without keys.
     bool renew(std::uint64_t now) {
         if (!plant_keys_came(&keys, now)) return false;
         const std::span sets(keys.sets, keys.count);
         Status status = publisher.renew(0, sets);
         const std::size_t groups = subscriber.read_groups().value_or(0);
-        for (std::uint32_t group = 0; group < groups && (status || status == UAP_INDEX); group++) status = subscriber.renew(group, sets);
+        for (std::uint32_t group = 0; group < groups && status; group++) {
+            status = subscriber.renew(group, sets);
+            if (status == UAP_INDEX) status = UAP_OK;
+        }
         plant_log("keys %s: tokens %" PRIu32 " to %" PRIu32, status.name(), sets.front().token, sets.back().token);
-        return status || status == UAP_INDEX;
+        return bool(status);
     }
 
     // Has the disk keep what is used, and a reserve, before any of it is sent.
