@@ -92,9 +92,8 @@ static void open_sides(struct drive *drive, const char *config) {
 static bool renew(struct drive *drive, uint64_t now) {
     const struct plant_keys *keys = &drive->keys;
     size_t groups = 0;
-    if (!plant_keys_came(&drive->keys, now)) return false;
+    if (!plant_keys_came(&drive->keys, now) || uap_read_group_count(&drive->subscriber, &groups) != UAP_OK) return false;
     uint32_t status = uap_publisher_renew(&drive->publisher, 0, keys->sets, keys->count);
-    uap_read_group_count(&drive->subscriber, &groups);
     for (uint32_t group = 0; group < groups && status == UAP_OK; group++) {
         status = uap_subscriber_renew(&drive->subscriber, group, keys->sets, keys->count);
         if (status == UAP_INDEX) status = UAP_OK;

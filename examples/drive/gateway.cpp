@@ -15,14 +15,13 @@ namespace {
 using uapubsub::Field, uapubsub::Publisher, uapubsub::Reader, uapubsub::Status, uapubsub::Subscriber;
 
 // A round, at most half the shortest interval; how many datagrams it takes at most; how often counts are told; how long a set point stands; and
-// how old the drive's health may be with which it is let run.
+// how old the drive's health may be with which it is let run, and how hot it may be.
 constexpr std::uint64_t round_ms = 10, most_a_round = 64, told_ms = 1000, order_ms = 1500, health_ms = 2000;
+constexpr float too_hot = 80;
 
 // How many numbers are stored ahead: a restart skips more than 16,384 of them, so that readers begin anew. And after how many datagrams they are
 // stored anew at the latest: a message number is stored at most 8,192 ahead, and `must_store` doesn't look at those.
 constexpr std::uint32_t ahead = 65536, stored_each = 4096;
-
-constexpr float too_hot = 80;
 
 void demand(Status status, const std::string &else_said) {
     if (!status) throw std::runtime_error(else_said + ": " + status.name());
