@@ -245,7 +245,8 @@ struct uap_passed {
 };
 
 /* What a read group refused, since the subscriber was opened. Of the last datagram it tells whose it was, as its header has it, where the
- * status is UAP_NOT_OURS, and the token where that is unknown or old. What isn't there is 0, and its `has_..` too. */
+ * status is UAP_NOT_OURS, and the token where that is unknown or old. What isn't there is 0, and its `has_..` too. Datagrams of other groups at the
+ * same port count too, as UAP_NOT_OURS: who counts damaged ones counts by struct uap_takings. */
 struct uap_refused {
     uint64_t count;           /* how many datagrams */
     uint64_t publisher;       /* the PublisherId, where it is a number */
@@ -760,7 +761,8 @@ static inline uint32_t uap_publisher_stored(struct uap_handle *handle) {
 }
 
 /* UAP_OK: save and store now. A key group's numbers aren't all in store, or less than half of what was saved ahead is left, or nothing is in
- * store. UAP_NONE: there is no need, as always where there is no key group; message numbers don't count. So a device that saves as soon as it has
+ * store. UAP_NONE: there is no need, as always where there is no key group. Message numbers don't
+ * count: save each 4,096 datagrams too. So a device that saves as soon as it has
  * to doesn't wait for its store, but for a datagram that is made as a token changes: come at the key's moment (uap_publisher_due), and save then. */
 static inline uint32_t uap_publisher_must_store(struct uap_handle *handle) {
     if (handle == NULL) return UAP_NULL;
