@@ -761,9 +761,9 @@ static inline uint32_t uap_publisher_stored(struct uap_handle *handle) {
 }
 
 /* UAP_OK: save and store now. A key group's numbers aren't all in store, or less than half of what was saved ahead is left, or nothing is in
- * store. UAP_NONE: there is no need, as always where there is no key group. Message numbers don't
- * count: save each 4,096 datagrams too. So a device that saves as soon as it has
- * to doesn't wait for its store, but for a datagram that is made as a token changes: come at the key's moment (uap_publisher_due), and save then. */
+ * store. UAP_NONE: there is no need, as always where there is no key group. Message numbers don't count: save each 4,096 datagrams too. So a
+ * device that saves as soon as it has to doesn't wait for its store, but for a datagram that is made as a token changes: come at the key's moment
+ * (uap_publisher_due), and save then. */
 static inline uint32_t uap_publisher_must_store(struct uap_handle *handle) {
     if (handle == NULL) return UAP_NULL;
     return uapubsub_publisher_must_store(handle);
