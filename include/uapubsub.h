@@ -246,7 +246,7 @@ struct uap_passed {
 
 /* What a read group refused, since the subscriber was opened. Of the last datagram it tells whose it was, as its header has it, where the
  * status is UAP_NOT_OURS, and the token where that is unknown or old. What isn't there is 0, and its `has_..` too. Datagrams of other groups at the
- * same port count too, as UAP_NOT_OURS: who counts damaged ones counts by struct uap_takings. */
+ * same port count too, as UAP_NOT_OURS: count damaged ones by struct uap_takings. */
 struct uap_refused {
     uint64_t count;           /* how many datagrams */
     uint64_t publisher;       /* the PublisherId, where it is a number */
@@ -733,7 +733,8 @@ static inline uint32_t uap_publisher_renew(struct uap_handle *handle, uint32_t k
  *
  *     at the start:    before the first uap_publisher_next: uap_publisher_renew with the ring that it had last, by the moments of this clock;
  *                      uap_publisher_restore with the bytes that were stored last, before any save; then save, store and tell
- *     in the loop:     save, store and tell where uap_publisher_must_store says UAP_OK, and where uap_publisher_next says UAP_UNSTORED
+ *     in the loop:     save, store and tell where uap_publisher_must_store says UAP_OK, where uap_publisher_next says UAP_UNSTORED, and each
+ *                      4,096 datagrams
  *     save and store:  uap_publisher_save; write the bytes, and have the disk keep them (uap_posix_write); only if that went well
  *                      uap_publisher_stored, before another save
  *

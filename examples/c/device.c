@@ -25,9 +25,10 @@ enum { ROUND_MS = 10, MOST_A_ROUND = 64, KEYS_MS = 500 };
 // A timeout alone doesn't do: where key frames are lost each other message begins it anew (docs/C.md).
 enum { FRESH_MS = 1000 };
 
-// How many numbers are stored ahead of those that are used. The device stores anew where less than half of them are left, so that no datagram
-// waits for the disk.
-enum { AHEAD = 65536 };
+// How many numbers are stored ahead of those that are used: so many that readers of secured groups begin anew after a restart (docs/KEYS.md).
+// The device stores anew where less than half of them are left, so that no datagram waits for the disk. And after how many datagrams it does
+// in any case: message numbers are stored 8,192 ahead at most.
+enum { AHEAD = 65536, STORE_EACH = 4096 };
 
 // The fields that this device sets, where the first data set has them. Those that it shows of the first reader's row go by the same
 // indexes, so the data set of that reader is the first one too. No data set has as many fields as NO_FIELD, an index that the library then
@@ -53,8 +54,9 @@ struct device {
     struct uap_posix_udp udp;
     // the moment at which the system's clock that is never set back had 0
     uint64_t epoch_ms;
-    // the file of the state, and whether it was said that too few numbers are left
+    // the file of the state, how many datagrams were sent since it was written, and whether it was said that too few numbers are left
     char state[UAP_POSIX_NAME_ROOM];
+    uint32_t since;
     bool spent;
     // the file of keys, if there is one, how much of it was read last, and when it is looked at again
     const char *keys;
@@ -80,12 +82,6 @@ static void demand(bool is_so, const char *else_said) {
 // Milliseconds since 1970, by the clock that is never set back while the device runs.
 static uint64_t now_ms(const struct device *device) {
     return device->epoch_ms + uap_posix_now_ms();
-}
-
-static uint64_t epoch(void) {
-    struct timespec now;
-    clock_gettime(CLOCK_REALTIME, &now);
-    return (uint64_t)now.tv_sec * 1000 + (uint64_t)now.tv_nsec / 1000000 - uap_posix_now_ms();
 }
 
 // ---- opening
@@ -192,6 +188,7 @@ static void store(struct device *device) {
     demand(uap_publisher_save(&device->publisher, AHEAD, bytes, sizeof bytes, &length) == UAP_OK, "cannot save the state");
     demand(uap_posix_write(device->state, bytes, length, 0600) == 0, "cannot store the state");
     demand(uap_publisher_stored(&device->publisher) == UAP_OK, "cannot save the state");
+    device->since = 0;
 }
 
 // Goes on after all that a life before may have used. A file that can't be read is not one that isn't there.
@@ -238,8 +235,9 @@ static void sample(struct device *device, uint64_t now) {
 static void publish(struct device *device, uint64_t now) {
     size_t length;
     uint32_t status;
-    if (uap_publisher_must_store(&device->publisher) == UAP_OK) store(device);
+    if (device->since >= STORE_EACH || uap_publisher_must_store(&device->publisher) == UAP_OK) store(device);
     while ((status = uap_publisher_next(&device->publisher, now, datagram, sizeof datagram, &length)) == UAP_OK || status == UAP_UNSTORED) {
+        device->since += status == UAP_OK;
         if (status == UAP_UNSTORED) store(device);
         else if (uap_posix_send(&device->udp, datagram, length) == 0) device->counts.sent++;
         else device->counts.failed++;
@@ -318,7 +316,7 @@ int main(int count, char **words) {
     const struct counts *counts = &device.counts;
     demand(count == 5 || count == 6, USAGE);
     uint32_t port = number_of(words[2], 65535), peer = number_of(words[3], 65535), seconds = number_of(words[4], 1000000);
-    device.epoch_ms = epoch();
+    device.epoch_ms = uap_posix_epoch_ms();
     device.keys = words[5];
     open_sides(&device, words[1]);
     demand(uap_posix_udp_open(&device.udp, "127.0.0.1", (uint16_t)port, "127.0.0.1", (uint16_t)peer, 0) == 0, "cannot open the port");
