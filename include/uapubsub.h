@@ -45,7 +45,7 @@ enum {
     UAP_OPENED = 4,          /* the handle is open already */
     UAP_OTHER_SIDE = 5,      /* the handle is a subscriber's, and the call a publisher's, or the other way about */
     UAP_MEMORY = 6,          /* memory ran out */
-    UAP_REFUSED = 7,         /* the configuration is refused: uap_config_check says why */
+    UAP_REFUSED = 7,         /* the configuration is refused: uap_config_check says why, and uap_config_place where */
     UAP_INDEX = 8,           /* there is no such data set, field, key group, group, writer, read group or reader, or the read group has no keys */
     UAP_MISFIT = 9,          /* the field is there, and of another kind, or doesn't have this value or this status */
     UAP_ROOM = 10,           /* the buffer is too short */
@@ -57,6 +57,11 @@ enum {
     UAP_NUMBERS_AGAIN = 16,  /* numbers would be used again: the token is lower than the one in use, or is that one with a greater number used */
     UAP_NO_KIND = 17,        /* no kind of a field, or no list, has this number */
     UAP_STALE = 18,          /* the row that the reader holds is older than that */
+    UAP_UNSTORED = 19,       /* a datagram waits until its number is in store: uap_publisher_save, then uap_publisher_stored */
+    UAP_DAMAGED = 20,        /* the bytes aren't those that uap_publisher_save laid */
+    UAP_OTHER_CONFIG = 21,   /* the bytes are of another configuration */
+    UAP_LATER_TOKEN = 22,    /* the bytes have a later token of a key group than its key sets have at this moment */
+    UAP_BEGUN = 23,          /* the group had a turn before */
 
     /* Why a datagram is refused. */
     UAP_HEADER_SHORT = 101,     /* it ends before its header does */
@@ -153,6 +158,13 @@ struct uap_handle {
 
 #define UAP_CLOSED_HANDLE {0, NULL}
 
+/* Where a configuration that is refused is at fault. */
+struct uap_place {
+    uint32_t code;  /* the number of the fault: 1 of C1 BadToml, and so on (docs/CONFIGURATION.md) */
+    size_t line;    /* the line, from 1: of C1 that where the reader of TOML ended; else the first with which the text up to it has the table that
+                     * is at fault, or the last line where none has */
+};
+
 /* The keys of one token. An AES-128 key is the first 16 bytes of `encrypting`. The moment `from_ms` is of the clock of `now_ms`. */
 struct uap_key_set {
     uint32_t token;
@@ -173,6 +185,24 @@ struct uap_taken {
     uint32_t matched;  /* how often one was given to a reader */
     uint32_t bad;      /* how many of these couldn't be read */
 };
+
+/* What a read group answered to a datagram. */
+struct uap_answer {
+    uint32_t status;         /* UAP_OK: it took it. UAP_HEADER_SHORT .. UAP_TOO_OLD: why it refused it. UAP_INDEX: there is no such read group */
+    struct uap_taken taken;  /* what became of the messages; zeros where it didn't take it */
+};
+
+/* What the read groups answered to a datagram, by their indexes. */
+struct uap_takings {
+    uint32_t took;                /* how many took it */
+    struct uap_answer groups[4];
+};
+
+/* How many bytes uap_publisher_save lays. */
+#define UAP_STATE_BYTES 336
+
+/* How many bytes uap_subscriber_take takes at most. */
+#define UAP_MOST_DATAGRAM_BYTES 65536
 
 /* What a field is. */
 struct uap_field {
@@ -215,7 +245,8 @@ struct uap_passed {
 };
 
 /* What a read group refused, since the subscriber was opened. Of the last datagram it tells whose it was, as its header has it, where the
- * status is UAP_NOT_OURS, and the token where that is unknown or old. What isn't there is 0, and its `has_..` too. */
+ * status is UAP_NOT_OURS, and the token where that is unknown or old. What isn't there is 0, and its `has_..` too. Datagrams of other groups at the
+ * same port count too, as UAP_NOT_OURS: count damaged ones by struct uap_takings. */
 struct uap_refused {
     uint64_t count;           /* how many datagrams */
     uint64_t publisher;       /* the PublisherId, where it is a number */
@@ -239,6 +270,7 @@ struct uap_refused {
 /* ---- the proved calls, which take no null pointer. The calls below them test that first. */
 
 uint32_t uapubsub_config_check(const uint8_t *text, size_t length, uint8_t *error, size_t room, size_t *written);
+uint32_t uapubsub_config_place(const uint8_t *text, size_t length, struct uap_place *place);
 uint32_t uapubsub_close(struct uap_handle *handle);
 uint32_t uapubsub_count(struct uap_handle *handle, uint32_t list, uint32_t of, size_t *count);
 uint32_t uapubsub_name(struct uap_handle *handle, uint32_t list, uint32_t of, uint32_t index, uint8_t *buffer, size_t room, size_t *length);
@@ -259,10 +291,19 @@ uint32_t uapubsub_publisher_resume(struct uap_handle *handle, uint32_t keygroup,
 uint32_t uapubsub_publisher_resume_with(struct uap_handle *handle, uint32_t keygroup, uint64_t now_ms, uint32_t token, uint32_t used,
                                         const struct uap_key_set *sets, size_t count);
 uint32_t uapubsub_publisher_renew(struct uap_handle *handle, uint32_t keygroup, const struct uap_key_set *sets, size_t count);
+uint32_t uapubsub_publisher_save(struct uap_handle *handle, uint32_t ahead, uint8_t *buffer, size_t room, size_t *length);
+uint32_t uapubsub_publisher_stored(struct uap_handle *handle);
+uint32_t uapubsub_publisher_must_store(struct uap_handle *handle);
+uint32_t uapubsub_publisher_restore(struct uap_handle *handle, uint64_t now_ms, const uint8_t *bytes, size_t length);
+uint32_t uapubsub_state_token(const uint8_t *bytes, size_t length, uint32_t keygroup, uint32_t *token);
+uint32_t uapubsub_state_used(const uint8_t *bytes, size_t length, uint32_t keygroup, uint32_t *used);
+uint32_t uapubsub_state_message(const uint8_t *bytes, size_t length, uint32_t group, uint32_t writer, uint16_t *number);
+uint32_t uapubsub_writer_begin_at(struct uap_handle *handle, uint32_t group, uint32_t writer, uint16_t number);
 uint32_t uapubsub_writer_enable(struct uap_handle *handle, uint32_t group, uint32_t writer);
 uint32_t uapubsub_writer_disable(struct uap_handle *handle, uint32_t group, uint32_t writer);
 uint32_t uapubsub_subscriber_open(struct uap_handle *handle, const uint8_t *text, size_t length);
 uint32_t uapubsub_subscriber_datagram(struct uap_handle *handle, uint32_t group, uint64_t now_ms, uint8_t *bytes, size_t length, struct uap_taken *taken);
+uint32_t uapubsub_subscriber_take(struct uap_handle *handle, uint64_t now_ms, const uint8_t *bytes, size_t length, struct uap_takings *takings);
 uint32_t uapubsub_subscriber_expire(struct uap_handle *handle, uint64_t now_ms);
 uint32_t uapubsub_subscriber_renew(struct uap_handle *handle, uint32_t group, const struct uap_key_set *sets, size_t count);
 uint32_t uapubsub_reader_enable(struct uap_handle *handle, uint32_t group, uint32_t reader);
@@ -311,6 +352,13 @@ static inline bool uap_version_fits(void) {
 static inline uint32_t uap_config_check(const void *text, size_t length, char *error, size_t room, size_t *written) {
     if (text == NULL || error == NULL || written == NULL) return UAP_NULL;
     return uapubsub_config_check(UAP_TEXT(text), length, UAP_BYTES(error), room, written);
+}
+
+/* Where a configuration is at fault that uap_config_check, or an opening, answers UAP_REFUSED to. UAP_NONE: it is none that is refused. The text is
+ * read once for each line up to that one, so this is for a person who waits, and not for a loop. */
+static inline uint32_t uap_config_place(const void *text, size_t length, struct uap_place *place) {
+    if (text == NULL || place == NULL) return UAP_NULL;
+    return uapubsub_config_place(UAP_TEXT(text), length, place);
 }
 
 /* Closes a handle of either side, and gives back its memory. */
@@ -409,6 +457,11 @@ static inline const char *uap_status_name(uint32_t status) {
         UAP_NAMED(UAP_NUMBERS_AGAIN);
         UAP_NAMED(UAP_NO_KIND);
         UAP_NAMED(UAP_STALE);
+        UAP_NAMED(UAP_UNSTORED);
+        UAP_NAMED(UAP_DAMAGED);
+        UAP_NAMED(UAP_OTHER_CONFIG);
+        UAP_NAMED(UAP_LATER_TOKEN);
+        UAP_NAMED(UAP_BEGUN);
         UAP_NAMED(UAP_HEADER_SHORT);
         UAP_NAMED(UAP_VERSION);
         UAP_NAMED(UAP_DISCOVERY);
@@ -554,9 +607,17 @@ static inline uint32_t uap_writer_disable(struct uap_handle *handle, uint32_t gr
     return uapubsub_writer_disable(handle, group, writer);
 }
 
+/* The first data message of a writer has this number, in place of the configuration's first_number: one from a clock, or that goes on from the
+ * last life. Call it before the group's first turn. UAP_BEGUN: the group had one. uap_publisher_restore does so for all writers. */
+static inline uint32_t uap_writer_begin_at(struct uap_handle *handle, uint32_t group, uint32_t writer, uint16_t number) {
+    if (handle == NULL) return UAP_NULL;
+    return uapubsub_writer_begin_at(handle, group, writer, number);
+}
+
 /* The next datagram that is due, laid into `buffer`; UAP_NONE where no other is. With UAP_ROOM it has `length` bytes, and waits.
  * Groups have their turns as they are due, each at multiples of its interval. Where a token changes as its key's moment comes, the groups
- * with these keys send key frames next. */
+ * with these keys send key frames next. UAP_UNSTORED: one is due, and waits until its number is in store
+ * (uap_publisher_save). */
 static inline uint32_t uap_publisher_next(struct uap_handle *handle, uint64_t now_ms, void *buffer, size_t room, size_t *length) {
     if (handle == NULL || buffer == NULL || length == NULL) return UAP_NULL;
     return uapubsub_publisher_next(handle, now_ms, UAP_BYTES(buffer), room, length);
@@ -666,6 +727,78 @@ static inline uint32_t uap_publisher_renew(struct uap_handle *handle, uint32_t k
     return uapubsub_publisher_renew(handle, keygroup, sets, count);
 }
 
+/* ---- what a device stores
+ *
+ * No token and number may come twice, nor over restarts. So a device stores bytes before it sends, and goes on after them:
+ *
+ *     at the start:    before the first uap_publisher_next: uap_publisher_renew with the ring that it had last, by the moments of this clock;
+ *                      uap_publisher_restore with the bytes that were stored last, before any save; then save, store and tell
+ *     in the loop:     save, store and tell where uap_publisher_must_store says UAP_OK, where uap_publisher_next says UAP_UNSTORED, and each
+ *                      4,096 datagrams
+ *     save and store:  uap_publisher_save; write the bytes, and have the disk keep them (uap_posix_write); only if that went well
+ *                      uap_publisher_stored, before another save
+ *
+ * Where uap_publisher_restore answers another status than UAP_OK, or the file is there and can't be read, what was used isn't known. Then save
+ * nothing and send nothing of secured groups, until the right bytes are restored, or the key groups have later tokens than those used before.
+ *
+ * A program that never saves keeps its numbers itself: uap_publisher_standing, uap_publisher_resume. */
+
+/* Lays UAP_STATE_BYTES bytes to store at the front of the buffer, and `length` is how many: of each key group the token in use and a number
+ * `ahead` after the one used last, or what is in store where that is later; of each writer a message number as far ahead, 8,192 at most. From now
+ * on a datagram of a secured group is given only where the numbers that its key group used are in store; else it waits (UAP_UNSTORED). As long as
+ * one waits no group has a turn, also none without keys, and uap_publisher_due tells `now_ms`. Before the first save nothing is withheld. Each
+ * restart passes `ahead` numbers over. Let it be 8,192 at most or 32,768 at least, and twice what is sent while the disk works. UAP_ROOM: the
+ * buffer is too short. */
+static inline uint32_t uap_publisher_save(struct uap_handle *handle, uint32_t ahead, void *buffer, size_t room, size_t *length) {
+    if (handle == NULL || buffer == NULL || length == NULL) return UAP_NULL;
+    return uapubsub_publisher_save(handle, ahead, UAP_BYTES(buffer), room, length);
+}
+
+/* The bytes that uap_publisher_save laid last are in store: written, and kept by the disk. Call it before another save: it tells of the last
+ * bytes alone. Where nothing was saved nothing changes. */
+static inline uint32_t uap_publisher_stored(struct uap_handle *handle) {
+    if (handle == NULL) return UAP_NULL;
+    return uapubsub_publisher_stored(handle);
+}
+
+/* UAP_OK: save and store now. A key group's numbers aren't all in store, or less than half of what was saved ahead is left, or nothing is in
+ * store. UAP_NONE: there is no need, as always where there is no key group. Message numbers don't count: save each 4,096 datagrams too. So a
+ * device that saves as soon as it has to doesn't wait for its store, but for a datagram that is made as a token changes: come at the key's moment
+ * (uap_publisher_due), and save then. */
+static inline uint32_t uap_publisher_must_store(struct uap_handle *handle) {
+    if (handle == NULL) return UAP_NULL;
+    return uapubsub_publisher_must_store(handle);
+}
+
+/* Goes on after stored bytes, before the first uap_publisher_next: what was made before isn't after the stored numbers, and is sent all the same.
+ * Each key group with the last of its key sets whose moment has come, after the stored number where that is the
+ * stored token; each writer, of a group without a turn, at its stored message number. Until the next uap_publisher_stored nothing more is given of
+ * secured groups. UAP_DAMAGED: they aren't bytes of uap_publisher_save. UAP_OTHER_CONFIG: they are of a configuration with another PublisherId, or
+ * other groups, writers, key groups or data sets. UAP_LATER_TOKEN: they have a later token of a key group than its key sets have at this moment:
+ * give it the last ring first (uap_publisher_renew), or the clock was set back. With each of these nothing changes. */
+static inline uint32_t uap_publisher_restore(struct uap_handle *handle, uint64_t now_ms, const void *bytes, size_t length) {
+    if (handle == NULL || bytes == NULL) return UAP_NULL;
+    return uapubsub_publisher_restore(handle, now_ms, UAP_TEXT(bytes), length);
+}
+
+/* What stored bytes say: the token of a key group, the number under it that a restart goes on after, and the message number at which a writer
+ * begins then. Where the configuration has no such key group or writer nothing is said of it. UAP_DAMAGED, as above. UAP_INDEX: it is past the 4
+ * key groups, 4 groups and 16 writers of a configuration. */
+static inline uint32_t uap_state_token(const void *bytes, size_t length, uint32_t keygroup, uint32_t *token) {
+    if (bytes == NULL || token == NULL) return UAP_NULL;
+    return uapubsub_state_token(UAP_TEXT(bytes), length, keygroup, token);
+}
+
+static inline uint32_t uap_state_used(const void *bytes, size_t length, uint32_t keygroup, uint32_t *used) {
+    if (bytes == NULL || used == NULL) return UAP_NULL;
+    return uapubsub_state_used(UAP_TEXT(bytes), length, keygroup, used);
+}
+
+static inline uint32_t uap_state_message(const void *bytes, size_t length, uint32_t group, uint32_t writer, uint16_t *number) {
+    if (bytes == NULL || number == NULL) return UAP_NULL;
+    return uapubsub_state_message(UAP_TEXT(bytes), length, group, writer, number);
+}
+
 /* ---- the subscriber */
 
 /* Opens a subscriber of a configuration. It takes all memory that it ever needs. */
@@ -674,10 +807,17 @@ static inline uint32_t uap_subscriber_open(struct uap_handle *handle, const void
     return uapubsub_subscriber_open(handle, UAP_TEXT(text), length);
 }
 
-/* A datagram came to a read group, which may decrypt its bytes in place: with several read groups give each a copy. */
+/* A datagram came to one read group, which may decrypt its bytes in place. uap_subscriber_take gives it to all. */
 static inline uint32_t uap_subscriber_datagram(struct uap_handle *handle, uint32_t group, uint64_t now_ms, void *bytes, size_t length, struct uap_taken *taken) {
     if (handle == NULL || bytes == NULL || taken == NULL) return UAP_NULL;
     return uapubsub_subscriber_datagram(handle, group, now_ms, UAP_BYTES(bytes), length, taken);
+}
+
+/* A datagram came to all read groups: to each, in their order, as uap_subscriber_datagram has it with a copy of its own. The bytes stay. The header
+ * is read once, and a copy is made only for those that don't refuse the datagram by it. UAP_ROOM: it has more than UAP_MOST_DATAGRAM_BYTES. */
+static inline uint32_t uap_subscriber_take(struct uap_handle *handle, uint64_t now_ms, const void *bytes, size_t length, struct uap_takings *takings) {
+    if (handle == NULL || bytes == NULL || takings == NULL) return UAP_NULL;
+    return uapubsub_subscriber_take(handle, now_ms, UAP_TEXT(bytes), length, takings);
 }
 
 /* Time goes on: a reader whose timeout has passed holds no row. */
@@ -845,7 +985,8 @@ static inline uint32_t uap_read_group_only(struct uap_handle *handle, uint32_t g
 }
 
 /* All datagrams that are due, laid one behind another into `buffer`, with their lengths, at most `most`. Whatever the status but UAP_NULL,
- * `count` of them were laid, and are to be sent. UAP_NONE: that was all. UAP_SPENT: that was all of the groups that may have a turn.
+ * `count` of them were laid, and are to be sent. UAP_NONE: that was all. UAP_SPENT: that was all of the groups that may have a turn. UAP_UNSTORED:
+ * the next one waits for the store.
  * UAP_ROOM: there were `most`, or the next one has no room behind them: send these, and call again. UAP_ROOM with none: the buffer is too
  * short for the next one, or `most` is 0. */
 static inline uint32_t uap_publisher_tick(struct uap_handle *handle, uint64_t now_ms, void *buffer, size_t room, size_t *lengths, size_t most,

@@ -5,6 +5,7 @@
 #define UAPUBSUB_HPP
 
 #include "uapubsub.h"
+#include <array>
 #include <cstddef>
 #include <cstdint>
 #include <cstring>
@@ -75,6 +76,9 @@ struct StatusCode {
 struct Field {
     std::uint32_t set = 0, index = 0;
 };
+
+// What a device stores: the bytes of `Publisher::save`.
+using State = std::array<std::uint8_t, UAP_STATE_BYTES>;
 
 // A reader, by the indexes of its read group and of the reader in it.
 struct Reader {
@@ -170,6 +174,9 @@ protected:
         return it;
     }
 
+    // A pointer to no bytes is null in C++, and a call takes none.
+    static const std::uint8_t *bytes_of(const void *it) { return static_cast<const std::uint8_t *>(it == nullptr ? "" : it); }
+
     template <class T, class Call> static Result<T> told(Call call) {
         T it = {};
         if (const Status status = call(&it); !status) return status;
@@ -188,6 +195,13 @@ inline std::string refused(std::string_view text) {
     uap_config_check(text.data(), text.size(), line.data(), line.size(), &written);
     line.resize(written);
     return line;
+}
+
+// Where a configuration that is refused is at fault. UAP_NONE: it is none that is refused.
+inline Result<uap_place> place(std::string_view text) {
+    uap_place it = {};
+    if (const Status status = uap_config_place(text.data(), text.size(), &it); !status) return status;
+    return it;
 }
 
 // The sending side.
@@ -249,10 +263,24 @@ public:
     }
     Status renew(std::uint32_t keygroup, std::span<const uap_key_set> sets) { return uap_publisher_renew(raw(), keygroup, sets.data(), sets.size()); }
 
+    // The bytes to store: numbers so far ahead. From now on `next` has UAP_UNSTORED where a datagram's number isn't in store.
+    [[nodiscard]] Result<State> save(std::uint32_t ahead) {
+        State it = {};
+        std::size_t length = 0;
+        if (const Status status = uap_publisher_save(raw(), ahead, it.data(), it.size(), &length); !status) return status;
+        return it;
+    }
+    // The bytes of the last `save` are in store.
+    [[nodiscard]] Status stored() { return uap_publisher_stored(raw()); }
+    // Whether to save and store now.
+    bool must_store() const { return uap_publisher_must_store(raw()) == UAP_OK; }
+    // Goes on after stored bytes.
+    [[nodiscard]] Status restore(std::uint64_t now_ms, std::span<const std::uint8_t> bytes) { return uap_publisher_restore(raw(), now_ms, bytes_of(bytes.data()), bytes.size()); }
+    // The first data message of a writer has this number. UAP_BEGUN: its group had a turn.
+    Status begin_at(Writer it, std::uint16_t number) { return uap_writer_begin_at(raw(), it.group, it.index, number); }
+
 private:
     explicit Publisher(Handle it) : Side(std::move(it)) {}
-    // A pointer to no bytes is null in C++, and a call takes none.
-    static const std::uint8_t *bytes_of(const void *it) { return static_cast<const std::uint8_t *>(it == nullptr ? "" : it); }
 };
 
 // The receiving side.
@@ -273,7 +301,11 @@ public:
     }
     Result<std::size_t> read_groups() const { return told<std::size_t>([&](std::size_t *it) { return uap_read_group_count(raw(), it); }); }
 
-    // A datagram came to a read group, which may decrypt its bytes in place: with several read groups give each a copy.
+    // A datagram came to all read groups. The bytes stay.
+    Result<uap_takings> take(std::uint64_t now_ms, std::span<const std::uint8_t> bytes) {
+        return told<uap_takings>([&](uap_takings *it) { return uap_subscriber_take(raw(), now_ms, bytes_of(bytes.data()), bytes.size(), it); });
+    }
+    // A datagram came to one read group, which may decrypt its bytes in place.
     Result<uap_taken> datagram(std::uint32_t group, std::uint64_t now_ms, std::span<std::uint8_t> bytes) {
         return told<uap_taken>([&](uap_taken *it) { return uap_subscriber_datagram(raw(), group, now_ms, bytes.data(), bytes.size(), it); });
     }

@@ -42,6 +42,13 @@ static inline uint64_t uap_posix_now_ms(void) {
     return UAP_POSIX_CAST(uint64_t, now.tv_sec) * 1000u + UAP_POSIX_CAST(uint64_t, now.tv_nsec) / 1000000u;
 }
 
+/* What to add to uap_posix_now_ms for milliseconds since 1970, of which moments of keys are: ask once, at the start, so that the sum isn't set back. */
+static inline uint64_t uap_posix_epoch_ms(void) {
+    struct timespec now;
+    clock_gettime(CLOCK_REALTIME, &now);
+    return UAP_POSIX_CAST(uint64_t, now.tv_sec) * 1000u + UAP_POSIX_CAST(uint64_t, now.tv_nsec) / 1000000u - uap_posix_now_ms();
+}
+
 /* ---- files that a power cut leaves whole */
 
 /* Reads a whole file. ENOENT: there is none. EFBIG: it has more than `room` bytes, and nothing of it is to be used. */

@@ -326,12 +326,51 @@ class Unread:
 
     def __init__(self, text, code, path_text, error):
         found = re.search(r"\(at (?:line (\d+), column \d+|(end of document))\)", str(error))
-        self.line = int(found[1] if found and found[1] else len(text.rstrip("\n").split("\n")))
+        self.line = int(found[1]) if found and found[1] else behind_the_last_document(text)
         self.table, self.notes = "the document", [f"the reader says: {shown(error)}"]
         if code != 1:
             # Python's reader is of TOML 1.0, the program's takes what 1.1 adds
             self.line, self.table = header_line(text, steps(path_text)), f"{path_text}, counted from 0"
             self.notes = [f"the key isn't looked for, since Python's reader says: {shown(error)}"]
+        self.code, self.lines = code, text.removeprefix("\ufeff").split("\n")
+
+    def there(self):
+        """The line that can't be read, and that line put right, where one small change does it: then the text up to it is read."""
+        if self.code != 1:
+            return None, None
+        front, wrong = self.lines[: self.line - 1], self.lines[self.line - 1].rstrip("\r")
+        right = next((it for it in mended(wrong) if is_document([*front, it])), None)
+        return f"`{shown(wrong.strip())}`", f"`{shown(right.strip())}`" if right else "nothing that one small change of this line gives: see what the reader says"
+
+
+def behind_the_last_document(text):
+    """The line from which on no front of the text is a document: where what isn't closed begins."""
+    lines = text.removeprefix("\ufeff").split("\n")
+    return next(count for count in range(len(lines) - 1, -1, -1) if is_document(lines[:count])) + 1
+
+
+def is_document(lines):
+    try:
+        tomllib.loads("\n".join(lines))
+    except tomllib.TOMLDecodeError:
+        return False
+    return True
+
+
+def mended(line):
+    """The line with one small change: an end that is missing, or too much of one, another sign between key and value, quotes round a value."""
+    body, sign, comment = line.partition(" #")
+    body, rest = body.rstrip(), sign + comment
+    yield from (body + end + rest for end in ("]", "]]", '"', "'", "}", ")", "}]", "']", '"]'))
+    yield from (body[:-count] + rest for count in (1, 2) if body[-1:] in "],;}\"'")
+    found = re.match(r"\s*([\w-]+)\s*(?::=|==|:|=|\s)\s*(.*)$", body)
+    if found:
+        key, value = found[1], found[2].strip().strip("\"'").rstrip(",;")
+        values = [found[2].rstrip(",;"), *[value.lower()] * (value.lower() in ("true", "false")), *[value.lstrip("0") or "0"] * value.isdigit(), f'"{value}"']
+        yield from (f"{key} = {it}{rest}" for it in values if it)
+    head = re.match(r"\s*\[+\s*([\w.-]+)\s*\]*\s*$", body)
+    if head:
+        yield from (it + rest for it in (f"[{head[1]}]", f"[[{head[1]}]]"))
 
 
 def explain(text, code, path_text):
@@ -340,7 +379,7 @@ def explain(text, code, path_text):
         doc = tomllib.loads(text.removeprefix("\ufeff"))
     except tomllib.TOMLDecodeError as error:
         unread = Unread(text, code, path_text, error)
-        return unread.line, unread.table, None, unread.notes, None, None
+        return unread.line, unread.table, None, unread.notes, *unread.there()
     refused, lines = Refused(doc, code, steps(path_text)), Text(text)
     path, key, other = refused.path, refused.key, refused.other
     key_line = lines.line_of([*path, key]) if key else None

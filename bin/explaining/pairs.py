@@ -52,7 +52,7 @@ class Pair:
 
     def __init__(self, publisher, subscriber, writer, reader):
         self.publisher, self.subscriber, self.writer, self.reader = publisher, subscriber, writer, reader
-        self.differences, self.notes = [], []
+        self.differences = []
         self.judge_groups()
         self.judge_slots()
         self.judge_datasets()
@@ -96,7 +96,6 @@ class Pair:
             self.differences.append(("the fields of the data set", f"{self.publisher.place(there)} has {len(fields[0])}", f"{self.subscriber.place(here)} has {len(fields[1])}"))
         for i in range(min(map(len, fields))):
             self.compare(OF_FIELDS, [*there, "field", i], [*here, "field", i], f"field {i + 1} of the data set")
-        self.judge_place("data set", there, here)
 
     def judge_keys(self):
         if not (is_secured(self.publisher.at(self.writer[:2])) and is_secured(self.subscriber.at(self.reader[:2]))):
@@ -111,11 +110,6 @@ class Pair:
                 if self.publisher.value([*there, "key", i], key) != self.subscriber.value([*here, "key", i], key):
                     places = (self.publisher.place([*there, "key", i], key), self.subscriber.place([*here, "key", i], key))
                     self.differences.append((f"`{key}` of key {i + 1}", f"{places[0]}", f"{places[1]} has another"))
-        self.judge_place("key group", there, here)
-
-    def judge_place(self, what, there, here):
-        if there[1] != here[1]:
-            self.notes.append(f"the {what} is number {there[1] + 1} of its kind at the publisher and {here[1] + 1} here: the laws of two devices ask for the same number")
 
 
 def pairs(publisher, subscriber):
@@ -125,7 +119,7 @@ def pairs(publisher, subscriber):
         for i in range(len(group.get("reader", []))):
             path = ["readgroup", r, "reader", i]
             found = [Pair(publisher, subscriber, writer, path) for writer in writers]
-            yield path, min(found, key=lambda pair: (len(pair.differences), len(pair.notes)), default=None)
+            yield path, min(found, key=lambda pair: len(pair.differences), default=None)
 
 
 def told(publisher, subscriber):
@@ -136,6 +130,6 @@ def told(publisher, subscriber):
             yield subscriber.place(path), False, f"{name}: the publisher has no writer", []
             continue
         writer = named(publisher.doc, pair.writer)
-        rows = [("differs", f"{what}: {there}, {here}") for what, there, here in pair.differences] + [("note", it) for it in pair.notes]
+        rows = [("differs", f"{what}: {there}, {here}") for what, there, here in pair.differences]
         said = f"reads {writer}" if not pair.differences else f"isn't matched; nearest is {writer}"
         yield subscriber.place(path), not pair.differences, f"{name}: {said}", rows

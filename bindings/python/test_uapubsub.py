@@ -13,7 +13,7 @@ KINDS = {"Boolean": (True, 1), "SByte": (-128, 128), "Byte": (255, 256), "Int16"
 KEY = dict(signing=bytes(range(32)), encrypting=bytes(range(16)), nonce=b"3333")
 # the types of the header's parameters, as the module names them
 TYPES = {"struct uap_handle *": "handle", "const uint8_t *": "bytes", "uint8_t *": "room", "size_t": "size", "size_t *": "size*", "uint16_t *": "u16*",
-         "uint32_t": "u32", "uint32_t *": "u32*", "uint64_t": "u64", "uint64_t *": "u64*", "const struct uap_key_set *": "sets", "struct uap_taken *": "taken*",
+         "uint32_t": "u32", "uint32_t *": "u32*", "uint64_t": "u64", "uint64_t *": "u64*", "const struct uap_key_set *": "sets", "struct uap_taken *": "taken*", "struct uap_takings *": "takings*", "struct uap_place *": "place*",
          "const struct uap_guid *": "bytes", "struct uap_guid *": "room",
          "struct uap_fault *": "fault*", "struct uap_passed *": "passed*", "struct uap_received *": "received*", "struct uap_last_taken *": "last*",
          "struct uap_refused *": "refused*", "uint16_t": "u16"}
@@ -97,7 +97,7 @@ class OfTheHeader(unittest.TestCase):
         return re.sub(r"(?<=[a-z])(?=[A-Z])", "_", kind).upper()
 
     def test_structs(self):
-        sizes = {"handle": (_library.Handle, 16), "key_set": (u.KeySet, 80), "taken": (u.Taken, 12), "fault": (u.LastFault, 40), "passed": (u.Passed, 32),
+        sizes = {"handle": (_library.Handle, 16), "key_set": (u.KeySet, 80), "taken": (u.Taken, 12), "answer": (_library.Answer, 16), "takings": (_library.Takings, 68), "place": (u.Place, 16), "fault": (u.LastFault, 40), "passed": (u.Passed, 32),
                  "received": (u.Received, 32), "last_taken": (u.LastTaken, 8), "refused": (u.Refusals, 56)}
         for name, (ours, size) in sizes.items():
             block = re.search(rf"^struct uap_{name} {{\n(.*?)^}};", self.header, re.M | re.S)[1]
@@ -175,6 +175,11 @@ class Sides(OverSides):
         publisher.close()
         with self.assertRaises(u.Closed):
             publisher.standing("keys")
+
+    def test_a_fault_has_a_line(self):
+        self.assertIsNone(u.place(text()))
+        place = u.place(text().replace("interval = 100", "interval = 0"))
+        self.assertEqual((place.code, text().split("\n")[place.line - 1]), (9, "[[group]]"))
 
     def test_switches(self):
         publisher, subscriber = self.opened()
@@ -272,6 +277,54 @@ class Keys(OverSides):
         with self.assertRaises(u.Spent):
             list(publisher.datagrams(100))
         self.assertFalse(publisher.may_turn("group"))
+
+    def test_a_restart_goes_on_after_what_was_stored(self):
+        publisher, subscriber = self.opened(secured=True)
+        self.assertTrue(publisher.must_store())
+        state = publisher.save(2)
+        self.assertEqual(len(state), u.STATE_BYTES)
+        with self.assertRaises(u.Unstored):
+            next(publisher.datagrams(100))
+        publisher.stored()
+        self.assertFalse(publisher.must_store())
+        for now in (100, 200):
+            for datagram in publisher.datagrams(now):
+                self.assertEqual(subscriber.take(datagram, now)[0].matched, 1)
+        again, _ = self.opened(secured=True)
+        again.restore(300, state)
+        self.assertEqual(again.standing("keys"), (7, 2))
+        again.save(2)
+        again.stored()
+        for datagram in again.datagrams(300):
+            self.assertEqual(subscriber.take(datagram, 300)[0].matched, 1)
+        self.assertEqual((subscriber.last_taken("readers").number, subscriber.number("readers", "reader")), (3, 2))
+
+    def test_states_that_arent_restored(self):
+        publisher, _ = self.opened(secured=True)
+        other, _ = self.opened()
+        state = publisher.save(2)
+        for wrong, status in ((state[:-1], u.Damaged), (state[:-1] + bytes([state[-1] ^ 1]), u.Damaged), (other.save(2), u.OtherConfig)):
+            with self.assertRaises(status):
+                publisher.restore(0, wrong)
+        later, _ = self.opened(secured=True)
+        later.renew("keys", [u.KeySet.of(8, 0, **KEY)])
+        list(later.datagrams(100))
+        with self.assertRaises(u.LaterToken):
+            publisher.restore(0, later.save(2))
+
+    def test_a_writer_begins_at_a_number(self):
+        publisher, subscriber = self.opened()
+        publisher.begin_at("group", "writer", 700)
+        for datagram in publisher.datagrams(100):
+            subscriber.take(datagram, 100)
+        self.assertEqual(subscriber.number("readers", "reader"), 700)
+        with self.assertRaises(u.Begun):
+            publisher.begin_at("group", "writer", 800)
+
+    def test_a_datagram_that_is_too_long(self):
+        _, subscriber = self.opened()
+        with self.assertRaises(u.Room):
+            subscriber.take(bytes(65537), 100)
 
     def test_keys_of_another_length(self):
         for wrong in (dict(signing=bytes(31)), dict(encrypting=bytes(24)), dict(nonce=b"")):

@@ -46,7 +46,7 @@ uapubsub::Subscriber open(const std::string &text) {
 class Listener {
 public:
     Listener(const std::string &text, std::uint16_t port)
-        : subscriber(open(text)), groups(static_cast<std::uint32_t>(subscriber.read_groups().value())), reading(field("reading")), celsius(field("celsius")) {
+        : subscriber(open(text)), reading(field("reading")), celsius(field("celsius")) {
         demand(uap_posix_udp_open(&udp, "127.0.0.1", port, "127.0.0.1", port, 0) == 0, "cannot open the port");
     }
     ~Listener() { uap_posix_udp_close(&udp); }
@@ -80,16 +80,11 @@ private:
             (is_taken(now, length) ? taken : refused)++;
     }
 
-    // Gives the datagram to each read group, a copy to each, since it may be decrypted where it lies. Whether one of them took it.
+    // Gives the datagram to all read groups. Whether one of them took it.
     bool is_taken(std::uint64_t now, std::size_t length) {
-        bool is_one = false;
-        for (std::uint32_t group = 0; group < groups; group++) {
-            std::memcpy(copy.data(), bytes.data(), length);
-            const auto answer = subscriber.datagram(group, now, std::span(copy).first(length));
-            demand(answer || answer.status().is_refusal(), "cannot subscribe");
-            is_one |= bool(answer);
-        }
-        return is_one;
+        const auto takings = subscriber.take(now, std::span(bytes).first(length));
+        demand(bool(takings), "cannot subscribe");
+        return takings->took > 0;
     }
 
     void show() {
@@ -101,11 +96,10 @@ private:
     }
 
     uapubsub::Subscriber subscriber;
-    std::uint32_t groups;
     uapubsub::Reader reader;
     uapubsub::Field reading, celsius;
     uap_posix_udp udp = {-1, {}};
-    std::vector<std::uint8_t> bytes = std::vector<std::uint8_t>(65536), copy = bytes;
+    std::vector<std::uint8_t> bytes = std::vector<std::uint8_t>(65536);
     unsigned long taken = 0, refused = 0;
     int printed = -1;
 };

@@ -12,6 +12,7 @@ _Static_assert(sizeof(struct uap_handle) == 16 && offsetof(struct uap_handle, he
 _Static_assert(sizeof(struct uap_key_set) == 80 && offsetof(struct uap_key_set, nonce) == 4 && offsetof(struct uap_key_set, from_ms) == 8, "KeySetWords");
 _Static_assert(offsetof(struct uap_key_set, signing) == 16 && offsetof(struct uap_key_set, encrypting) == 48, "KeySetWords");
 _Static_assert(sizeof(struct uap_taken) == 12 && sizeof(struct uap_guid) == 16, "TakenWords, GuidBytes");
+_Static_assert(sizeof(struct uap_answer) == 16 && sizeof(struct uap_takings) == 68 && offsetof(struct uap_takings, groups) == 4, "AnswerWords, TakingsWords");
 
 static char left[1 << 16], right[1 << 16];
 static size_t left_length, right_length;
@@ -251,8 +252,11 @@ int main(int count, char **words) {
     check_kinds();
     check_memory();
     check_own();
+    check_places();
     check_readers();
     check_refusals();
+    check_storing();
+    check_taking_all();
     check_damaged();
     printf("calls: ok, %u damaged datagrams\n", turns * COPIES);
     return 0;

@@ -23,8 +23,11 @@ void check_keys(void);
 void check_kinds(void);
 void check_memory(void);
 void check_own(void);
+void check_places(void);
 void check_readers(void);
 void check_refusals(void);
+void check_storing(void);
+void check_taking_all(void);
 
 // ---- datagrams
 

@@ -71,6 +71,7 @@ static void demand_of_own(struct uap_handle *handle, uint32_t set, uint32_t fiel
 
 static void demand_of_writers(struct uap_handle *handle, uint32_t group, uint32_t writer, uint32_t status) {
     DEMAND(uap_writer_enable(handle, group, writer) == status && uap_writer_disable(handle, group, writer) == status);
+    DEMAND(uap_writer_begin_at(handle, group, writer, 7) == status);
 }
 
 static void demand_of_readers(struct uap_handle *handle, uint32_t group, uint32_t reader, uint32_t status) {
@@ -111,6 +112,8 @@ static void demand_of_publisher(struct uap_handle *handle, uint32_t status) {
     DEMAND(uap_group_may_turn(handle, 0) == status);
     demand_of_writers(handle, 0, 0, status);
     demand_of_key_groups(handle, 0, status);
+    DEMAND(uap_publisher_save(handle, 9, bytes, sizeof bytes, &length) == status && uap_publisher_stored(handle) == status);
+    DEMAND(uap_publisher_must_store(handle) == status && uap_publisher_restore(handle, 0, bytes, sizeof bytes) == status);
     DEMAND(uap_publisher_next(handle, 0, bytes, sizeof bytes, &length) == status);
     DEMAND(uap_publisher_tick(handle, 0, bytes, sizeof bytes, lengths, 4, &count) == status);
 }
@@ -120,6 +123,8 @@ static void demand_of_subscriber(struct uap_handle *handle, uint32_t status) {
     demand_of_readers(handle, 0, 0, status);
     demand_of_read_groups(handle, 0, status);
     uint64_t moment;
+    struct uap_takings takings;
+    DEMAND(uap_subscriber_take(handle, 0, bytes, 4, &takings) == status);
     DEMAND(uap_subscriber_expire(handle, 0) == status && uap_subscriber_due(handle, 0, &moment) == status);
 }
 
@@ -180,7 +185,7 @@ static void check_null_inputs(struct uap_handle *publisher, struct uap_handle *s
     demand_of_names(publisher, NULL, UAP_NULL);
     DEMAND(uap_set_text(publisher, 0, 0, NULL) == UAP_NULL && uap_set_bytes(publisher, 0, 0, NULL, 0) == UAP_NULL);
     DEMAND(uap_set_guid(publisher, 0, 0, NULL) == UAP_NULL && uap_publisher_renew(publisher, 0, NULL, 0) == UAP_NULL);
-    DEMAND(uap_publisher_resume_with(publisher, 0, 0, 2, 9, NULL, 0) == UAP_NULL);
+    DEMAND(uap_publisher_resume_with(publisher, 0, 0, 2, 9, NULL, 0) == UAP_NULL && uap_publisher_restore(publisher, 0, NULL, 0) == UAP_NULL);
     DEMAND(uap_subscriber_datagram(subscriber, 0, 0, NULL, 0, &taken) == UAP_NULL && uap_subscriber_renew(subscriber, 0, NULL, 0) == UAP_NULL);
 }
 
@@ -218,6 +223,9 @@ static void check_null_outputs(struct uap_handle *publisher, struct uap_handle *
     DEMAND(uap_reader_last_fault(subscriber, 0, 0, NULL) == UAP_NULL && uap_reader_passed(subscriber, 0, 0, NULL) == UAP_NULL);
     DEMAND(uap_read_group_refused(subscriber, 0, NULL) == UAP_NULL && uap_reader_received(subscriber, 0, 0, NULL) == UAP_NULL);
     DEMAND(uap_read_group_last_taken(subscriber, 0, NULL) == UAP_NULL);
+    struct uap_takings takings;
+    DEMAND(uap_publisher_save(publisher, 9, NULL, 0, &length) == UAP_NULL && uap_publisher_save(publisher, 9, bytes, sizeof bytes, NULL) == UAP_NULL);
+    DEMAND(uap_subscriber_take(subscriber, 0, NULL, 0, &takings) == UAP_NULL && uap_subscriber_take(subscriber, 0, bytes, 4, NULL) == UAP_NULL);
 }
 
 // ---- indexes
@@ -300,7 +308,7 @@ static void check_listed(void) {
 
 static void check_names(void) {
     DEMAND(strcmp(uap_status_name(UAP_OK), "UAP_OK") == 0 && strcmp(uap_status_name(UAP_TOO_OLD), "UAP_TOO_OLD") == 0);
-    DEMAND(strcmp(uap_status_name(19), "?") == 0 && strcmp(uap_status_name(100), "?") == 0 && strcmp(uap_status_name(UINT32_MAX), "?") == 0);
+    DEMAND(strcmp(uap_status_name(24), "?") == 0 && strcmp(uap_status_name(100), "?") == 0 && strcmp(uap_status_name(UINT32_MAX), "?") == 0);
     DEMAND(strcmp(uap_why_name(UAP_WHY_GAP), "UAP_WHY_GAP") == 0 && strcmp(uap_why_name(6), "?") == 0);
 }
 

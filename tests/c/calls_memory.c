@@ -63,6 +63,12 @@ static uint32_t judge(struct uap_handle *handle, const void *text, size_t length
     return uap_config_check(text, length, line, sizeof line, &written);
 }
 
+static uint32_t place(struct uap_handle *handle, const void *text, size_t length) {
+    struct uap_place place;
+    (void)handle;
+    return uap_config_place(text, length, &place);
+}
+
 static uint32_t open_publisher(struct uap_handle *handle, const void *text, size_t length) {
     return uap_publisher_open(handle, text, length);
 }
@@ -109,6 +115,14 @@ static void check_others(void) {
         DEMAND(uap_writer_disable(&publisher, 0, 0) == UAP_OK && uap_writer_enable(&publisher, 0, 0) == UAP_OK);
         DEMAND(uap_reader_disable(&subscriber, 0, 0) == UAP_OK && uap_reader_enable(&subscriber, 0, 0) == UAP_OK);
     }
+    uint8_t state[UAP_STATE_BYTES];
+    size_t length;
+    uint32_t token;
+    struct uap_takings takings;
+    DEMAND(uap_writer_begin_at(&publisher, 0, 0, 9) == UAP_BEGUN && uap_publisher_save(&publisher, 9, state, sizeof state, &length) == UAP_OK);
+    DEMAND(uap_publisher_stored(&publisher) == UAP_OK && uap_publisher_must_store(&publisher) == UAP_NONE);
+    DEMAND(uap_publisher_restore(&publisher, 1000, state, length) == UAP_OK && uap_state_token(state, length, 0, &token) == UAP_OK);
+    DEMAND(uap_subscriber_take(&subscriber, 1000, datagram.bytes, datagram.length, &takings) == UAP_OK);
     DEMAND(asked == 0);
     close_sides(&publisher, &subscriber);
     DEMAND(held == before);
@@ -117,6 +131,8 @@ static void check_others(void) {
 void check_memory(void) {
     check_taking(judge, small, UAP_OK);
     check_taking(judge, "[publisher]\nid = 9\n", UAP_REFUSED);
+    check_taking(place, small, UAP_NONE);
+    check_taking(place, "[publisher]\nid = 9\n", UAP_OK);
     check_taking(open_publisher, small, UAP_OK);
     check_taking(open_subscriber, small, UAP_OK);
     check_others();

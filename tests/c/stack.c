@@ -19,6 +19,8 @@ static uint8_t datagram[65536], copy[65536];
 static size_t size;
 static uint32_t status;
 static struct uap_key_set sets[16];
+static uint8_t state[UAP_STATE_BYTES];
+static size_t state_size;
 
 static void nothing(void) { status = UAP_OK; }
 static void check(void) { char line[256]; size_t written; status = uap_config_check(text, length, line, sizeof line, &written); }
@@ -44,6 +46,14 @@ static void reader_off(void) { status = uap_reader_disable(&subscriber, 0, 0); }
 static void reader_on(void) { status = uap_reader_enable(&subscriber, 0, 0); }
 static void writer_off(void) { status = uap_writer_disable(&publisher, 0, 0); }
 static void writer_on(void) { status = uap_writer_enable(&publisher, 0, 0); }
+static void begin_at(void) { status = uap_writer_begin_at(&publisher, 0, 0, 700); }
+static void save(void) { status = uap_publisher_save(&publisher, 9, state, sizeof state, &state_size); }
+static void stored(void) { status = uap_publisher_stored(&publisher); }
+static void must_store(void) { status = uap_publisher_must_store(&publisher); }
+static void restore(void) { status = uap_publisher_restore(&publisher, 0, state, state_size); }
+static void state_token(void) { uint32_t token; status = uap_state_token(state, state_size, 0, &token); }
+static void take_all(void) { struct uap_takings takings; status = uap_subscriber_take(&subscriber, 100, datagram, size, &takings); }
+static void place(void) { struct uap_place it; status = uap_config_place(text, length, &it); }
 static void close_publisher(void) { status = uap_close(&publisher); }
 static void close_subscriber(void) { status = uap_close(&subscriber); }
 
@@ -53,13 +63,15 @@ struct call {
     uint32_t answer;
 };
 
-static const struct call judging[] = {{"config_check", check, UAP_REFUSED}, {NULL, NULL, 0}};
+static const struct call judging[] = {{"config_check", check, UAP_REFUSED}, {"config_place", place, UAP_OK}, {NULL, NULL, 0}};
 
 /* (a datagram of the same device is of another publisher: it is refused, behind its header) */
 static const struct call all[] = {
-    {"config_check", check, UAP_OK}, {"publisher_open", open_publisher, UAP_OK}, {"subscriber_open", open_subscriber, UAP_OK}, {"name", name, UAP_OK},
+    {"config_check", check, UAP_OK}, {"config_place", place, UAP_NONE}, {"publisher_open", open_publisher, UAP_OK}, {"subscriber_open", open_subscriber, UAP_OK}, {"name", name, UAP_OK},
+    {"writer_begin_at", begin_at, UAP_OK}, {"publisher_save", save, UAP_OK}, {"publisher_restore", restore, UAP_OK}, {"publisher_must_store", must_store, UAP_OK}, {"publisher_save, again", save, UAP_OK},
+    {"publisher_stored", stored, UAP_OK}, {"state_token", state_token, UAP_OK},
     {"set_u32", set_u32, ANY}, {"set_text", set_text, ANY}, {"own_text", own_text, ANY}, {"publisher_due", due, UAP_OK}, {"publisher_next", next, UAP_OK},
-    {"subscriber_datagram", take, ANY}, {"reader_why", why, ANY}, {"get_u32", get_u32, ANY}, {"get_text", get_text, ANY}, {"subscriber_expire", expire, UAP_OK},
+    {"subscriber_datagram", take, ANY}, {"subscriber_take", take_all, UAP_OK}, {"reader_why", why, ANY}, {"get_u32", get_u32, ANY}, {"get_text", get_text, ANY}, {"subscriber_expire", expire, UAP_OK},
     {"publisher_standing", standing, UAP_OK}, {"publisher_resume", resume, ANY}, {"publisher_resume_with", resume_with, ANY}, {"publisher_renew", renew, UAP_OK},
     {"subscriber_renew", renew_subscriber, UAP_OK}, {"subscriber_datagram, renewed", take, ANY}, {"publisher_next, renewed", next, ANY}, {"reader_disable", reader_off, UAP_OK},
     {"reader_enable", reader_on, UAP_OK}, {"writer_disable", writer_off, UAP_OK}, {"writer_enable", writer_on, UAP_OK}, {"close, publisher", close_publisher, UAP_OK},

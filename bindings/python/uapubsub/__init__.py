@@ -16,11 +16,11 @@ import ctypes, struct, threading, tomllib, uuid
 from ctypes import byref, c_size_t, c_uint16, c_uint32, c_uint64
 from typing import Any, Iterator, NamedTuple
 
-from ._library import Handle, KeySet, LastFault, LastTaken, Passed, Received, Refusals, Taken, library
+from ._library import Handle, KeySet, LastFault, LastTaken, Passed, Place, Received, Refusals, Taken, Takings, library
 from .errors import *
 from .errors import demand
 
-MOST_DATAGRAM_BYTES, MOST_TEXT_BYTES, MOST_LINE_BYTES = 65536, 256, 256
+MOST_DATAGRAM_BYTES, MOST_TEXT_BYTES, MOST_LINE_BYTES, STATE_BYTES = 65536, 256, 256, 336
 # The number of each kind of scalar, and how struct packs it into its word.
 _SCALARS = {"Boolean": (1, "<?"), "SByte": (2, "<b"), "Byte": (3, "<B"), "Int16": (4, "<h"), "UInt16": (5, "<H"), "Int32": (6, "<i"), "UInt32": (7, "<I"),
             "Int64": (8, "<q"), "UInt64": (9, "<Q"), "Float": (10, "<f"), "Double": (11, "<d"), "DateTime": (13, "<q"), "StatusCode": (19, "<I")}
@@ -44,6 +44,12 @@ def check(text: str | bytes) -> None:
     text, line, written = _encoded(text), ctypes.create_string_buffer(MOST_LINE_BYTES), c_size_t()
     status = library.uapubsub_config_check(text, len(text), line, MOST_LINE_BYTES, byref(written))
     demand(status, line.raw[: written.value].decode())
+
+
+def place(text: str | bytes) -> Place | None:
+    """Where a configuration that is refused is at fault: the number of the fault, and the line. None: it is none that is refused."""
+    text, place = _encoded(text), Place()
+    return None if demand(library.uapubsub_config_place(text, len(text), byref(place)), "place") else place
 
 
 def _encoded(text: str | bytes) -> bytes:
@@ -139,7 +145,8 @@ class Publisher(_Side):
         return DataSet(self, self._table("dataset", dataset))
 
     def datagrams(self, now_ms: int) -> Iterator[bytes]:
-        """Those that are due, one by one. Behind the last one Spent is raised where a group that is due can have no turn."""
+        """Those that are due, one by one. Behind the last one Spent is raised where a group that is due can have no turn, and Unstored where a
+        datagram waits until its number is in store."""
         buffer, length = ctypes.create_string_buffer(MOST_DATAGRAM_BYTES), c_size_t()
         while self._call("publisher_next", now_ms, buffer, MOST_DATAGRAM_BYTES, byref(length)) == Status.OK:
             yield ctypes.string_at(buffer, length.value)
@@ -174,6 +181,28 @@ class Publisher(_Side):
     def renew(self, keygroup: str | int, sets: list[KeySet]) -> None:
         """A key group goes on with other key sets."""
         self._call("publisher_renew", self._table("keygroup", keygroup), *_ring(sets))
+
+    def save(self, ahead: int) -> bytes:
+        """What to store: numbers so far ahead. From now on a datagram of a secured group waits until its number is in store."""
+        buffer, length = ctypes.create_string_buffer(STATE_BYTES), c_size_t()
+        self._call("publisher_save", ahead, buffer, STATE_BYTES, byref(length))
+        return buffer.raw[: length.value]
+
+    def stored(self) -> None:
+        """The bytes of the last `save` are in store: written, and kept by the disk."""
+        self._call("publisher_stored")
+
+    def must_store(self) -> bool:
+        """Whether to save and store now."""
+        return self._call("publisher_must_store") == Status.OK
+
+    def restore(self, now_ms: int, state: bytes) -> None:
+        """Goes on after stored bytes."""
+        self._call("publisher_restore", now_ms, state, len(state))
+
+    def begin_at(self, group: str | int, writer: str | int, number: int) -> None:
+        """The first data message of a writer has this number, where its group had no turn yet."""
+        self._call("writer_begin_at", *self._places(group, writer), number)
 
 
 class DataSet:
@@ -232,20 +261,23 @@ def _word(kind: str, value: Any, field: str | int) -> int:
         raise Misfit(f"{field}: {error}") from None
 
 
+def _answer(answer: Any) -> Taken | Refusal:
+    """What a read group took, or its refusal as an exception."""
+    try:
+        demand(answer.status)
+    except Refusal as refusal:
+        return refusal
+    return answer.taken
+
+
 class Subscriber(_Side):
     _side, _groups, _member = "subscriber", "readgroup", "reader"
 
     def take(self, datagram: bytes, now_ms: int) -> list[Taken | Refusal]:
-        """Gives a datagram to each read group: what each one took, or why it refused it."""
-        return [self._taken(group, datagram, now_ms) for group in range(len(self._tables.get("readgroup", [])))]
-
-    def _taken(self, group: int, datagram: bytes, now_ms: int) -> Taken | Refusal:
-        taken, copy = Taken(), ctypes.create_string_buffer(datagram, max(1, len(datagram)))
-        try:
-            self._call("subscriber_datagram", group, now_ms, copy, len(datagram), byref(taken))
-        except Refusal as refusal:
-            return refusal
-        return taken
+        """Gives a datagram to all read groups: what each one took, or why it refused it."""
+        takings, datagram = Takings(), bytes(datagram)
+        self._call("subscriber_take", now_ms, datagram, len(datagram), byref(takings))
+        return [_answer(it) for it in takings.groups if it.status != Status.INDEX]
 
     def expire(self, now_ms: int) -> None:
         """Time goes on: a reader whose timeout has passed holds no row."""

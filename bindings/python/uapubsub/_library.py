@@ -28,6 +28,24 @@ class Taken(Structure):
     _fields_ = [("parts", c_uint32), ("matched", c_uint32), ("bad", c_uint32)]
 
 
+class Place(Structure):
+    """Where a configuration is at fault: the number of the fault, and the line."""
+
+    _fields_ = [("code", c_uint32), ("line", c_size_t)]
+
+
+class Answer(Structure):
+    """What a read group answered: its status, and what it took."""
+
+    _fields_ = [("status", c_uint32), ("taken", Taken)]
+
+
+class Takings(Structure):
+    """What the read groups answered, and how many took the datagram."""
+
+    _fields_ = [("took", c_uint32), ("groups", Answer * 4)]
+
+
 class LastFault(Structure):
     """How many parts of a reader couldn't be read, and why the last one couldn't: `fault` is a number of Fault. `field` is whose value has it, `kind` its type byte."""
 
@@ -62,12 +80,13 @@ class Refusals(Structure):
 # Each call with a word for each parameter, by the types of the header.
 TYPES = {"handle": POINTER(Handle), "bytes": c_char_p, "room": c_void_p, "size": c_size_t,
          "size*": POINTER(c_size_t), "u16*": POINTER(c_uint16), "u32": c_uint32, "u32*": POINTER(c_uint32), "u64": c_uint64, "u64*": POINTER(c_uint64),
-         "sets": POINTER(KeySet), "taken*": POINTER(Taken), "fault*": POINTER(LastFault), "passed*": POINTER(Passed),
+         "sets": POINTER(KeySet), "taken*": POINTER(Taken), "takings*": POINTER(Takings), "place*": POINTER(Place), "fault*": POINTER(LastFault), "passed*": POINTER(Passed),
          "received*": POINTER(Received), "last*": POINTER(LastTaken),
          "refused*": POINTER(Refusals), "u16": c_uint16}
 CALLS = """
 version
 config_check           bytes size room size size*
+config_place           bytes size place*
 close                  handle
 publisher_open         handle bytes size
 publisher_next         handle u64 room size size*
@@ -83,10 +102,16 @@ publisher_standing     handle u32 u32* u32*
 publisher_resume       handle u32 u64 u32
 publisher_resume_with  handle u32 u64 u32 u32 sets size
 publisher_renew        handle u32 sets size
+publisher_save         handle u32 room size size*
+publisher_stored       handle
+publisher_must_store   handle
+publisher_restore      handle u64 bytes size
+writer_begin_at        handle u32 u32 u16
 writer_enable          handle u32 u32
 writer_disable         handle u32 u32
 subscriber_open        handle bytes size
 subscriber_datagram    handle u32 u64 room size taken*
+subscriber_take        handle u64 bytes size takings*
 subscriber_expire      handle u64
 subscriber_renew       handle u32 sets size
 reader_enable          handle u32 u32

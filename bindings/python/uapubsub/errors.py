@@ -24,6 +24,11 @@ class Status(enum.IntEnum):
     NUMBERS_AGAIN = 16
     NO_KIND = 17
     STALE = 18
+    UNSTORED = 19
+    DAMAGED = 20
+    OTHER_CONFIG = 21
+    LATER_TOKEN = 22
+    BEGUN = 23
     HEADER_SHORT = 101
     VERSION = 102
     DISCOVERY = 103
@@ -170,6 +175,26 @@ class NoKind(Error, status=Status.NO_KIND):
 
 class Stale(Error, status=Status.STALE):
     """The row that the reader holds is older than that. `Subscriber.is_fresh` answers it, and raises none."""
+
+
+class Unstored(Error, status=Status.UNSTORED):
+    """A datagram waits until its number is in store: save, write, and call `stored`."""
+
+
+class Damaged(Error, ValueError, status=Status.DAMAGED):
+    """The bytes aren't those of `save`."""
+
+
+class OtherConfig(Error, ValueError, status=Status.OTHER_CONFIG):
+    """The bytes are of another configuration."""
+
+
+class LaterToken(Error, status=Status.LATER_TOKEN):
+    """The bytes have a later token of a key group than its key sets have at this moment."""
+
+
+class Begun(Error, status=Status.BEGUN):
+    """The group had a turn before."""
 
 
 class Refusal(Error):

@@ -7,12 +7,12 @@ use Rattle.std.proofs.lemmas.List.{get_or-set_same, get_or_read, length-set, len
 use Rattle.std.proofs.lemmas.List.Elements.{All-nil, All-push, Contains-append_left, Contains-push}
 use Rattle.message_guard.specs.Senders.{IsSender, SenderState}
 use Rattle.ps_config.specs.declared.parts.Config.{Config}
-use Rattle.writer_group.specs.Standing.{IsReserved, datagrams_in}
+use Rattle.writer_group.specs.Standing.{HasRoom, datagrams_in}
 use Rattle.writer_group.specs.declared.datagrams.Datagrams.{Datagrams}
 use Rattle.writer_group.specs.declared.sampled.Sampled.{Sampled}
 use Rattle.device.specs.Coming.{AllDid, Did, Does, HasItsTurn, HasMadeSome, HaveAllDone, IsPassed, IsQuiet}
 use Rattle.device.specs.Looking.{Counts, HasLooked, IsFrom, LeavesOut, LeavesSenders, is_held}
-use Rattle.device.specs.Sides.{HasNumbered, HasRing, IsPublisher, IsSide}
+use Rattle.device.specs.Sides.{ArePlaced, HasNumbered, HasRing, IsPublisher, IsSide}
 use Rattle.device.specs.declared.looking.Looked.{Looked}
 use Rattle.device.specs.declared.looking.Looked.TheVariants.{Held, Idle, Made}
 use Rattle.device.specs.declared.publisher.Publisher.{Publisher}
@@ -49,10 +49,16 @@ handed-count Idle old new counts is = omega (arith, counts.0, counts.1, is)
 handed-count Held old new counts is = omega (arith, counts.0, counts.1, is)
 handed-count (Made made) old new counts is = omega (arith, counts.1)
 
+-- a look leaves a group's index
+pub did-index : (config : Config) (now : ℕ) (rows : List Sampled) (senders : List SenderState) (out : Datagrams) (looked : Looked) (was is : Side) → Did config now rows senders out looked was is → is.index ≡ was.index
+did-index config now rows senders out Idle was is did = ap (λ (s : Side). s.index) did.stays
+did-index config now rows senders out Held was is did = ap (λ (s : Side). s.index) did.stays
+did-index config now rows senders out (Made made) was is did = did.turned.index
+
 pub looked-publisher : (looked : Looked) (old mid new : Publisher) → IsPublisher old → IsBut old mid → IsCounted mid new → Counts looked mid new → LeavesOut looked old.out mid.out
     → All IsSender mid.senders.items → length mid.senders.items ≡ length old.senders.items → AllZip HasRing mid.senders.items old.rings.items → All (IsSide old.config) mid.sides.items
-    → IsReserved mid.out → IsPublisher new
-looked-publisher looked old mid new is but counted counts leaves senders count rings sides reserved =
+    → ArePlaced mid.sides.items → HasRoom old.config mid.out → IsPublisher new
+looked-publisher looked old mid new is but counted counts leaves senders count rings sides places reserved =
     let on = counts-on looked old mid new but counts in
     subst IsPublisher (sym (but-counted old mid new but counted))
     (record {
@@ -63,6 +69,7 @@ looked-publisher looked old mid new is but counted counts leaves senders count r
       senders_count = count ∙ is.senders_count;
       rings_are = rings;
       sides_are = sides;
+      places = places;
       reserved = reserved;
       made_is = made-count looked old new mid.out leaves on is.made_is;
       handed_is = handed-count looked old new on is.handed_is;

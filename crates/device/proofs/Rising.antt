@@ -1,6 +1,7 @@
 -- Senders that never fall back.
-use Rattle.std.proofs.Common.{◌≡◌, ◌≢◌, ℕ, zero, suc, ◌+◌, ◌<◌, ◌≤◌, ◌⊎◌, inl, inr, Bool, true, false, List, [], ◌∷◌, length, get_or, set, nat_lt, refl, sym, ap, subst, arith, ◌∙◌}
+use Rattle.std.proofs.Common.{◌≡◌, ◌≢◌, ℕ, zero, suc, ◌+◌, ◌%◌, ◌/◌, ◌^◌, ◌<◌, ◌≤◌, ◌⊎◌, inl, inr, Bool, true, false, List, [], ◌∷◌, length, get_or, set, nat_lt, refl, sym, ap, subst, arith, ◌∙◌}
 use Rattle.std.specs.Prelude.{Option, Some, None, if◌then◌else◌}
+use Rattle.std.specs.List.{HoldsAt}
 use Rattle.std.proofs.lemmas.Bool.{cases_lt}
 use Rattle.std.proofs.lemmas.Bool.Decides.{nat_tests}
 use Rattle.std.proofs.lemmas.List.{get_or-map, get_or-set_same, get_or_default, get_or_past, length-map}
@@ -11,13 +12,17 @@ use Rattle.message_guard.specs.declared.mode.Mode.{Mode}
 use Rattle.message_guard.specs.Protection.{keys_in}
 use Rattle.message_guard.specs.Senders.{SenderState, renewed, turned, turned_by}
 use Rattle.ps_config.specs.declared.parts.Config.{Config}
+use Rattle.ps_config.specs.declared.parts.KeyGroupPart.{KeyGroupPart}
+use Rattle.stored_state.specs.declared.state.StoredState.{StoredState}
 use Rattle.ps_config.specs.Headers.{mode_of}
 use Rattle.writer_group.specs.Parts.{group_at}
 use Rattle.writer_group.specs.Sealing.{advanced_by}
 use Rattle.writer_group.proofs.Joining.{advanced-used}
-use Rattle.device.specs.Calls.{AreCalled, Call, Came, FallBackNever, GiveOthers, GivesEach, IsCalled, IsGiven, Other, Renewed, Resumed, number_at}
+use Rattle.device.specs.Calls.{AreCalled, Call, Came, FallBackNever, GiveOthers, GivesEach, IsCalled, IsGiven, Other, Renewed, Restored, Resumed, Saved, Stored, number_at}
 use Rattle.device.specs.Coming.{Comes, ComesTo, turned_to}
-use Rattle.device.specs.Resuming.{IsBehind}
+use Rattle.device.specs.Restarts.{HasBegunAt, HasGoneOn, HasRestored, HaveGoneOn, HaveNumbersBegun, MayNotBegin, passed_over}
+use Rattle.device.specs.Storing.{message_word, pair_in}
+use Rattle.device.specs.Resuming.{IsBehind, WouldRepeat}
 use Rattle.device.specs.Sides.{HasNumbered, HasRenewed, IsBecome, IsNoLess, numbered}
 use Rattle.device.specs.declared.asked.Next.{Next}
 use Rattle.device.specs.declared.asked.Next.TheVariants.{Datagram, Nothing, Spent}
@@ -46,7 +51,7 @@ turned-less-by : (s : SenderState) (set : Option KeySet) → IsNoLess s (turned_
 turned-less-by s None = same-less s
 turned-less-by s (Some set) = turned-set s set (nat_lt s.keys.token set.token) refl
 
-turned-less : (now : ℕ) (s : SenderState) → IsNoLess s (turned s now)
+pub turned-less : (now : ℕ) (s : SenderState) → IsNoLess s (turned s now)
 turned-less now s = turned-less-by s (current s.sets now)
 
 advanced-keys : (mode : Mode) (s : SenderState) (count : ℕ) → (advanced_by mode s count).keys ≡ s.keys
@@ -127,11 +132,49 @@ resumed-less keygroup now used sets old new behind =
     let y = get_or new.senders.items keygroup no_sender in
     subst (λ (l : List SenderState). FallBackNever old.senders.items l) (sym (behind.others no_sender)) (never-set old.senders.items keygroup y (behind.no_lower y no_sender))
 
+-- ---- a restored publisher
+
+-- numbers that begin leave the senders
+pub begun-senders : (count : ℕ) (words : List ℕ) (old new : Publisher) → HaveNumbersBegun count words old new → new.senders.items ≡ old.senders.items
+begun-senders zero words old new have = ap (λ (p : Publisher). p.senders.items) have
+begun-senders (suc count) words old new (mid, (have, step)) = by_step step ∙ begun-senders count words old mid have
+  where
+    by_step : HasBegunAt (count / 16) (count % 16) (message_word words (count / 16) (count % 16) % 2 ^ 16) mid new ⊎ (MayNotBegin (count / 16) (count % 16) mid × (new ≡ mid))
+        → new.senders.items ≡ mid.senders.items
+    by_step (inl begun) = ap (λ (p : Publisher). p.senders.items) begun.rest
+    by_step (inr stays) = ap (λ (p : Publisher). p.senders.items) stays.1
+
+-- one sender that goes on leaves none behind
+pub gone-less : (now keygroup : ℕ) (pair : ℕ × ℕ) (old new : Publisher) (sender : SenderState) → HasGoneOn now keygroup pair old new sender → FallBackNever old.senders.items new.senders.items
+gone-less now keygroup pair old new sender gone = by_case gone.is
+  where
+    by_case : IsBehind keygroup now (passed_over pair gone.set.token) sender.sets old new
+        ⊎ (HoldsAt (λ (part : KeyGroupPart). WouldRepeat part sender.sets now (passed_over pair gone.set.token) sender) old.config.keygroup keygroup × (new ≡ old))
+        → FallBackNever old.senders.items new.senders.items
+    by_case (inl behind) = resumed-less keygroup now (passed_over pair gone.set.token) sender.sets old new behind
+    by_case (inr stays) = never-same-as old.senders.items new.senders.items (ap (λ (p : Publisher). p.senders.items) stays.1)
+
+pub gone-all-less : (now count : ℕ) (words : List ℕ) (old new : Publisher) → HaveGoneOn now count words old new → FallBackNever old.senders.items new.senders.items
+gone-all-less now zero words old new have = never-same-as old.senders.items new.senders.items (ap (λ (p : Publisher). p.senders.items) have)
+gone-all-less now (suc count) words old new (mid, (have, step)) =
+    never-never old.senders.items mid.senders.items new.senders.items (gone-all-less now count words old mid have)
+    (gone-less now count (pair_in words count) mid new (get_or mid.senders.items count no_sender) (step no_sender))
+
+pub restored-less : (now : ℕ) (state : StoredState) (old new : Publisher) → HasRestored now state old new → FallBackNever old.senders.items new.senders.items
+restored-less now state old new has =
+    never-never old.senders.items has.gone.senders.items new.senders.items
+    (subst (λ (l : List SenderState). FallBackNever l has.gone.senders.items) (begun-senders 64 state.words old has.begun has.numbers)
+    (gone-all-less now (length old.senders.items) state.words has.begun has.gone has.senders))
+    (never-same-as has.gone.senders.items new.senders.items (ap (λ (p : Publisher). p.senders.items) has.rest))
+
 called-less : (call : Call) (old new : Publisher) → IsCalled call old new → FallBackNever old.senders.items new.senders.items
-called-less (Came now next) old new is = came-less now next old new is
+called-less (Came now next) old new is = came-less now next old new is.comes
 called-less (Renewed keygroup sets) old new is = renewed-less keygroup sets old new is
 called-less (Resumed keygroup now used sets) old new is = resumed-less keygroup now used sets old new is
-called-less Other old new is = never-same-as old.senders.items new.senders.items is
+called-less (Saved ahead bytes) old new is = never-same-as old.senders.items new.senders.items (ap (λ (p : Publisher). p.senders.items) is.rest)
+called-less Stored old new is = never-same-as old.senders.items new.senders.items (ap (λ (p : Publisher). p.senders.items) is)
+called-less (Restored now state) old new is = restored-less now state old new is
+called-less Other old new is = never-same-as old.senders.items new.senders.items is.senders
 
 pub never-falls : (calls : List Call) (old new : Publisher) → AreCalled calls old new → FallBackNever old.senders.items new.senders.items
 never-falls [] old new are = never-same-as old.senders.items new.senders.items (ap (λ (p : Publisher). p.senders.items) are)
@@ -140,14 +183,14 @@ never-falls (call ∷ calls) old new are =
 
 -- ---- numbers
 
-never-at : (old new : List SenderState) (k : ℕ) (d : SenderState) → FallBackNever old new → IsNoLess (get_or old k d) (get_or new k d)
+pub never-at : (old new : List SenderState) (k : ℕ) (d : SenderState) → FallBackNever old new → IsNoLess (get_or old k d) (get_or new k d)
 never-at [] [] k d never = same-less d
 never-at [] (y ∷ new) k d never = absurd never
 never-at (x ∷ old) [] k d never = absurd never
 never-at (x ∷ old) (y ∷ new) zero d never = never.0
 never-at (x ∷ old) (y ∷ new) (suc k) d never = never-at old new k d never.1
 
-apart : (one two : SenderState) (pair other : ℕ × ℕ) → IsNoLess one two → pair.0 ≡ one.keys.token → pair.1 ≤ one.used → other.0 ≡ two.keys.token → two.used < other.1 → pair ≢ other
+pub apart : (one two : SenderState) (pair other : ℕ × ℕ) → IsNoLess one two → pair.0 ≡ one.keys.token → pair.1 ≤ one.used → other.0 ≡ two.keys.token → two.used < other.1 → pair ≢ other
 apart one two pair other (inl lower) token low later high same =
     let both : pair.0 ≡ other.0 = ap (λ (p : ℕ × ℕ). p.0) same in absurd (omega (arith, lower, token, later, both))
 apart one two pair other (inr equal) token low later high same =
@@ -164,9 +207,15 @@ given-once keygroup (Came now next) calls (Came later after) = λ one two three 
     apart is (turned was later) pair other (less-less is was (turned was later) less (turned-less later was)) given.token given.used again.turned_token again.follows
 given-once keygroup (Came now next) calls (Renewed k sets) = λ one two three four pair other gives between more. absurd more
 given-once keygroup (Came now next) calls (Resumed k at used sets) = λ one two three four pair other gives between more. absurd more
+given-once keygroup (Came now next) calls (Saved ahead bytes) = λ one two three four pair other gives between more. absurd more
+given-once keygroup (Came now next) calls Stored = λ one two three four pair other gives between more. absurd more
+given-once keygroup (Came now next) calls (Restored at state) = λ one two three four pair other gives between more. absurd more
 given-once keygroup (Came now next) calls Other = λ one two three four pair other gives between more. absurd more
 given-once keygroup (Renewed k sets) calls last = λ one two three four pair other gives between more. absurd gives
 given-once keygroup (Resumed k at used sets) calls last = λ one two three four pair other gives between more. absurd gives
+given-once keygroup (Saved ahead bytes) calls last = λ one two three four pair other gives between more. absurd gives
+given-once keygroup Stored calls last = λ one two three four pair other gives between more. absurd gives
+given-once keygroup (Restored at state) calls last = λ one two three four pair other gives between more. absurd gives
 given-once keygroup Other calls last = λ one two three four pair other gives between more. absurd gives
 
 -- ---- the numbers of a turn

@@ -46,7 +46,7 @@ not-without config rows on group index keygroup sound at low keyed may_at =
 
 -- ---- the senders of key groups
 
-pub no_sender : SenderState
+unfoldable pub no_sender : SenderState
 no_sender = record { sets = []; keys = no_keys; random = []; first_block = 0; used = 0; fronted = None }
 
 -- the sender of a group that is secured

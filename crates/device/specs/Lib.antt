@@ -1,8 +1,13 @@
 pub mod Calls
 pub mod Coming
 pub mod Due
+pub mod EndTexts
+pub mod Fingerprints
 pub mod Looking
 pub mod Raising
 pub mod Readings
+pub mod Restarts
 pub mod Resuming
 pub mod Sides
+pub mod Storing
+pub mod Takings

@@ -1,5 +1,5 @@
 -- The sides of a device, between two calls.
-use Rattle.std.specs.Prelude.{◌≡◌, ℕ, ◌+◌, ◌%◌, ◌^◌, ◌<◌, ◌≤◌, Bool, true, false, List, length, map, replicate, slice_get, slice_set, ◌⊎◌, All, Option, Some, None, option_map, Result}
+use Rattle.std.specs.Prelude.{◌≡◌, ℕ, ◌+◌, ◌%◌, ◌^◌, ◌<◌, ◌≤◌, Bool, true, false, List, length, map, replicate, slice_get, slice_index_or, slice_set, vec_len, ◌⊎◌, All, Option, Some, None, option_map, Result}
 use Rattle.std.specs.List.{AllZip, HoldsAt, range_with_len}
 use Rattle.ua_values.specs.declared.value.Value.{Value}
 use Rattle.dataset_meta.specs.DataValues.{DataValue, IsStatus}
@@ -32,7 +32,7 @@ use Rattle.writer_group.specs.declared.group.Group.{Group}
 use Rattle.writer_group.specs.declared.sampled.Sampled.{Sampled}
 use Rattle.writer_group.specs.Parts.{group_at}
 use Rattle.writer_group.specs.Sealing.{advanced_by}
-use Rattle.writer_group.specs.Standing.{AreLogged, AreRowsOf, HasTickedAt, IsFreshAt, IsGood, IsRefreshed, IsReserved, KeepsTo, MayTickAt, MayTurnAt, datagrams_in, index_of, input_of, writer_count}
+use Rattle.writer_group.specs.Standing.{AreLogged, AreRowsOf, HasRoom, HasTickedAt, IsFreshAt, IsGood, IsRefreshed, KeepsTo, MayTickAt, MayTurnAt, datagrams_in, index_of, input_of, writer_count}
 use Rattle.device.specs.declared.listening.Listening.{Listening}
 use Rattle.device.specs.declared.publisher.Publisher.{Publisher}
 use Rattle.device.specs.declared.side.Side.{Side}
@@ -126,6 +126,10 @@ pub record IsOpeningRow (meta : MetaData) (sampled : Sampled) : Type 0 where
 abbrev pub HasRing : SenderState → Ring → Type 0
 HasRing sender ring = key_sets ring ≡ sender.sets
 
+-- each stands at its index
+abbrev pub ArePlaced : List Side → Type 0
+ArePlaced sides = (place : ℕ) (d : Side) → place < length sides → (slice_index_or sides place d).index ≡ place
+
 pub record IsPublisher (publisher : Publisher) : Type 0 where
   pub good : IsGood publisher.config
   pub rows_are : AreRowsOf publisher.config.dataset publisher.rows.items
@@ -134,7 +138,8 @@ pub record IsPublisher (publisher : Publisher) : Type 0 where
   pub senders_count : length publisher.senders.items ≡ length publisher.config.keygroup
   pub rings_are : AllZip HasRing publisher.senders.items publisher.rings.items
   pub sides_are : All (IsSide publisher.config) publisher.sides.items
-  pub reserved : IsReserved publisher.out
+  pub places : ArePlaced publisher.sides.items
+  pub reserved : HasRoom publisher.config publisher.out
   pub made_is : publisher.made ≡ length (datagrams_in publisher.out)
   pub handed_is : publisher.handed ≤ publisher.made
 
@@ -354,6 +359,8 @@ AreOpeningListenings config groups =
 pub record IsSubscriber (subscriber : Subscriber) : Type 0 where
   pub good : IsGood subscriber.config
   pub groups_are : All (IsListening subscriber.config) subscriber.groups.items
+  pub few : length subscriber.groups.items ≤ 4
+  pub room : vec_len subscriber.room ≡ 65536
 
 -- the read group takes datagrams of this one's NetworkMessageNumber
 abbrev pub TakesNumber : ℕ → List ℕ → Subscriber → Type 0

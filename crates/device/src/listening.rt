@@ -5,12 +5,14 @@ ghost use Rattle.dataset_meta.specs.Rows.{FitsAt};
 ghost use Rattle.group_keys.specs.Ring.{key_sets};
 ghost use Rattle.message_guard.specs.Protection.{keys_in};
 ghost use Rattle.ps_config.specs.Sound.{IsSound};
+ghost use Rattle.uadp_header.specs.Reading.{GivesHeader};
 ghost use Rattle.reader_group.specs.Filter.{takes_number};
 ghost use Rattle.reader_group.specs.Notices.{notice_at};
-ghost use Rattle.reader_group.specs.Groups.{GoesOnWith, HadIf, IsConfirmedAt, IsFreshAt, IsMadeOf, index_of, notices_of, reader_count, refused_of};
+ghost use Rattle.reader_group.specs.Groups.{GoesOnWith, HadIf, IsConfirmedAt, IsFreshAt, IsMadeOf, IsRefusedUnread, index_of, notices_of, reader_count, refused_of};
 ghost use Rattle.ps_config.specs.declared.parts.Config.{Config as ConfigValue};
 ghost use Rattle.device.specs.Due.{AreInTime, HasTimeout, IsInTime, TellsFirst, TimesOut};
 ghost use Rattle.device.specs.Readings.{HasExpired, HasGoneOff, HasSwitchedReader};
+ghost use Rattle.device.specs.Takings.{HadCopy};
 ghost use Rattle.device.specs.Sides.{IsListening, IsOpeningListening, KeepsNotes, NotesRefusal};
 
 use crate::due::earlier;
@@ -21,6 +23,7 @@ use pubsub_model::Why;
 use reader_group::{Notice, ReaderGroup, Refusal, Taken};
 use std::alloc::Global;
 use ua_base::NoMemory;
+use uadp_header::{Header, HeaderFault};
 
 /// A read group, whose readers are all on at first, with its place in the configuration.
 #[derive(Drop)]
@@ -68,6 +71,45 @@ impl Listening {
     {
         self.group
             .datagram_of_number(config, self.number, now, &self.on, bytes)
+    }
+
+    /// What `datagram` does, with a copy that it makes in this room. The bytes stay.
+    pub fn datagram_copied(
+        &mut self,
+        config: &Config,
+        now: u64,
+        bytes: &[u8],
+        room: &mut [u8],
+    ) -> Result<Taken, Refusal>
+        requires listening { IsListening config.now self.old }
+        requires room { length bytes.now ≤ length room.old }
+        ensures listening { IsListening config.now self.new }
+        ensures had { HadCopy config.now now bytes.now self.old self.new result }
+        ensures refused { NotesRefusal result bytes.now self.old self.new }
+        ensures rest { self.new ≡ record self.old { group = self.new.group } }
+    {
+        let copy = &mut room[..bytes.len()];
+        copy.copy_from_slice(bytes);
+        self.datagram(config, now, copy)
+    }
+
+    /// Refuses a datagram by its header alone, of which this was read (`ReaderGroup::refuse`). None, and nothing changes, where more has
+    /// to be read.
+    pub fn refuse(
+        &mut self,
+        config: &Config,
+        bytes: &[u8],
+        read: &Result<(Header<'_>, usize), HeaderFault>,
+    ) -> Option<Refusal>
+        requires listening { IsListening config.now self.old }
+        requires read { GivesHeader read.now bytes.now }
+        ensures listening { IsListening config.now self.new }
+        ensures refused { IfSome result
+            (IsRefusedUnread config.now self.old.number bytes.now self.old.group self.new.group) }
+        ensures none { IfNone result (self.new ≡ self.old) }
+        ensures rest { self.new ≡ record self.old { group = self.new.group } }
+    {
+        self.group.refuse(config, self.number, bytes, read)
     }
 
     /// Time goes on to this moment, in milliseconds (`ReaderGroup::expire`).

@@ -1,7 +1,7 @@
 //! A group of a publisher at a moment.
 ghost use Rattle.std.specs.Prelude.{◌≡◌, All};
 ghost use Rattle.message_guard.specs.Senders.{IsSender};
-ghost use Rattle.writer_group.specs.Standing.{AreRowsOf, IsGood, IsReserved};
+ghost use Rattle.writer_group.specs.Standing.{AreRowsOf, HasRoom, IsGood};
 ghost use Rattle.device.specs.Coming.{Did};
 ghost use Rattle.device.specs.Sides.{IsSide};
 ghost use Rattle.device.specs.Looking.{LeavesOut, LeavesSenders, is_held};
@@ -36,10 +36,10 @@ pub fn look(
     requires side { IsSide config.now side.old }
     requires rows { AreRowsOf config.now.dataset rows.now }
     requires senders { All IsSender senders.old }
-    requires reserved { IsReserved out.old }
+    requires reserved { HasRoom config.now out.old }
     ensures side { IsSide config.now side.new }
     ensures senders { All IsSender senders.new }
-    ensures reserved { IsReserved out.new }
+    ensures reserved { HasRoom config.now out.new }
     ensures did { Did config.now now rows.now senders.old out.new result side.old side.new }
     ensures numbers { LeavesSenders config.now side.old.index result senders.old senders.new }
     ensures out { LeavesOut result out.old out.new }

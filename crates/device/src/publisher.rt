@@ -7,12 +7,13 @@ ghost use Rattle.ps_config.specs.Reading.{configuration, IsEnd};
 ghost use Rattle.ps_config.specs.Types.{HasTypes};
 ghost use Rattle.row_words.specs.Setting.{HasStatus, HasValue};
 ghost use Rattle.row_words.specs.Words.{scalar_in};
-ghost use Rattle.writer_group.specs.Standing.{IsGood, IsReserved, datagrams_in};
+ghost use Rattle.writer_group.specs.Standing.{IsGood, datagrams_in};
 ghost use Rattle.device.specs.Coming.{Comes, HasCome, IsWaiting};
 ghost use Rattle.device.specs.Due.{IsCalm, IsDue, IsSpentAt, TellsFirst};
 ghost use Rattle.device.specs.Looking.{Counts, HasLooked, IsFrom};
 ghost use Rattle.device.specs.Resuming.{IsBehind, IsBehindConfigured, IsEarlier, MayNotResume, MayNotResumeConfigured};
 ghost use Rattle.device.specs.Sides.{AreOpeningSides, FitsKeyGroup, HasField, HasLongKeys, HasNoField, HasNoScalar, HasNoWriter, HasRenewed, HasSet, HasSetStatus, HasSetWord, HasWriterSwitched, IsMisfit, IsNoLower, IsOpeningRow, IsOpeningSender, IsPublisher, IsRowAt, IsStatusMisfit, IsWordMisfit, RowIs, StandsAt};
+ghost use Rattle.device.specs.Storing.{none_stored};
 
 use crate::asked::Next;
 use crate::due::{earlier, groups_due, keys_due};
@@ -21,6 +22,7 @@ use crate::making::{copy_of, has_long_keys, rings_of, rows_of, sender_with, send
 use crate::rows::{field_in, set_in, set_status_in, set_word_in, word_in};
 use crate::side::Side;
 use crate::sides::{refresh_with, turn_senders};
+use crate::store::Store;
 use crate::words::has_field_at;
 use group_keys::Ring;
 use message_guard::Sender;
@@ -49,6 +51,8 @@ pub struct Publisher {
     /// How many there are, and how many of them were handed over.
     pub made: u32,
     pub handed: u32,
+    /// What of the numbers is in store.
+    pub store: Store,
 }
 
 impl Publisher {
@@ -64,6 +68,7 @@ impl Publisher {
         ensures sides { IfOk result (λ publisher.
             AreOpeningSides publisher.config publisher.sides.items) }
         ensures none_waits { IfOk result (λ publisher. publisher.made ≡ 0) }
+        ensures store { IfOk result (λ publisher. publisher.store ≡ none_stored) }
         ensures refused { IfErr result (IsEnd (configuration text.now)) }
     {
         let config = read_config(alloc, text)?;
@@ -209,6 +214,7 @@ impl Publisher {
         ensures waits { result ≡ Next.Datagram → self.new.handed < self.new.made }
         ensures waited { self.old.handed < self.old.made → IsWaiting result self.old self.new }
         ensures came { self.old.made ≤ self.old.handed → HasCome now result self.old self.new }
+        ensures store { self.new.store ≡ self.old.store }
     {
         if self.is_waiting() {
             return Next::Datagram;
@@ -361,7 +367,7 @@ impl Publisher {
 
     /// The sender of the key group goes on behind `used` numbers of this ring, unless a number would come twice. Where its token changes
     /// its groups send key frames next.
-    fn go_on(&mut self, keygroup: u8, now: u64, used: u32, ring: Ring) -> bool
+    pub(crate) fn go_on(&mut self, keygroup: u8, now: u64, used: u32, ring: Ring) -> bool
         requires { IsPublisher self.old }
         ensures publisher { IsPublisher self.new }
         ensures behind { OnTrue result
@@ -398,6 +404,7 @@ impl Publisher {
         ensures config { self.new.config ≡ self.old.config }
         ensures rows { self.new.rows.items ≡ self.old.rows.items }
         ensures came { Comes now result self.old.senders.items self.old.sides.items self.new }
+        ensures store { self.new.store ≡ self.old.store }
     {
         let mut held = false;
         for g in 0..self.sides.len() {
@@ -416,6 +423,7 @@ impl Publisher {
         requires index { index < length self.old.sides.items }
         ensures publisher { IsPublisher self.new }
         ensures looked { HasLooked index now result self.old self.new }
+        ensures store { self.new.store ≡ self.old.store }
     {
         let from = self.sides[index].index;
         let looked = look(
@@ -469,12 +477,13 @@ fn publisher_of(alloc: Global, config: Config) -> Result<Publisher, NoMemory>
         AllZip IsOpeningSender config.keygroup publisher.senders.items) }
     ensures sides { IfOk result (λ publisher. AreOpeningSides config publisher.sides.items) }
     ensures none_waits { IfOk result (λ publisher. publisher.made ≡ 0) }
+    ensures store { IfOk result (λ publisher. publisher.store ≡ none_stored) }
 {
     let rows = rows_of(alloc, config.dataset.as_slice())?;
     let senders = senders_of(alloc, config.keygroup.as_slice())?;
     let rings = rings_of(alloc, config.keygroup.as_slice())?;
     let sides = sides_of(alloc, &config)?;
-    let out = Datagrams::new(alloc)?;
+    let out = Datagrams::for_config(alloc, &config)?;
     Ok(Publisher {
         config,
         rows,
@@ -485,11 +494,12 @@ fn publisher_of(alloc: Global, config: Config) -> Result<Publisher, NoMemory>
         from: 0,
         made: 0,
         handed: 0,
+        store: Store::new(),
     })
 }
 
 /// Whether no number of the second standing comes again behind the first one, each a token and the number used last under it.
-fn is_behind(new: (u32, u32), old: (u32, u32)) -> bool
+pub(crate) fn is_behind(new: (u32, u32), old: (u32, u32)) -> bool
     ensures { IsTrue result ↔ IsNoLower old new }
 {
     let (token, used) = new;

@@ -1,12 +1,14 @@
 //! A group of writers, of a configuration that its publisher keeps.
-ghost use Rattle.std.specs.Prelude.{◌≡◌, ◌<◌, IfOk, IfSome, IfNone, Some, None, All, length, min, slice_index_or};
+ghost use Rattle.std.specs.Prelude.{◌≡◌, ◌<◌, ◌≤◌, IfOk, IfSome, IfNone, Some, None, All, length, min, slice_index_or};
 ghost use Rattle.std.specs.Bool.{OnFalse, OnTrue};
 ghost use Rattle.message_guard.specs.Senders.{IsSender};
 ghost use Rattle.ps_config.specs.declared.parts.Config.{Config as ConfigValue};
 ghost use Rattle.writer_group.specs.Parts.{group_at};
-ghost use Rattle.writer_group.specs.Standing.{AreRowsOf, IsGood, IsReserved, KeepsTo, TellsDue, TellsMoment, index_of, writer_count};
+ghost use Rattle.writer_group.specs.Standing.{AreRowsOf, HasRoom, IsGood, KeepsTo, TellsDue, TellsMoment, TellsNextNumber, index_of, writer_count};
 ghost use Rattle.device.specs.Coming.{AreRefreshed, all_writers};
 ghost use Rattle.device.specs.Due.{HasTurnDue, SitsOut, TellsFirst};
+ghost use Rattle.ps_config.specs.Beginning.{config_beginning};
+ghost use Rattle.device.specs.Restarts.{HasSideBegun, IsTurned, IsUnturned};
 ghost use Rattle.device.specs.Sides.{HasComeOn, HasNumbered, HasSwitched, HasTurned, HasWriter, IsOpeningSide, IsSide, MayNotTurn, MayTurn, numbered, sender_for};
 
 use message_guard::Sender;
@@ -79,6 +81,41 @@ impl Side {
             return false;
         }
         index < part_of(config, self.index).writer.as_slice().len()
+    }
+
+    /// The number that the next data message of the writer with this index takes. None where there is no such writer.
+    pub fn next_number(&self, config: &Config, writer: u8) -> Option<u16>
+        requires { IsSide config.now self.now }
+        ensures next { IfSome result (TellsNextNumber self.now.group writer) }
+        ensures none { IfNone result (writer_count self.now.group ≤ writer) }
+    {
+        if usize::from(writer) >= part_of(config, self.index).writer.as_slice().len() {
+            return None;
+        }
+        Some(self.group.next_number(writer))
+    }
+
+    /// Whether the group had no turn yet: it is due an interval after moment 0.
+    pub fn is_unturned(&self, config: &Config) -> bool
+        requires { IsSide config.now self.now }
+        ensures unturned { OnTrue result (IsUnturned config.now self.now) }
+        ensures turned { OnFalse result (IsTurned config.now self.now) }
+    {
+        let interval = u64::from(part_of(config, self.index).interval);
+        match self.group.due_from() {
+            None => false,
+            Some(moment) => moment == interval,
+        }
+    }
+
+    /// The writer with this index begins anew, with this number as that of its first data message (`Group::begin_at`).
+    pub fn begin_at(&mut self, _config: &Config, writer: u8, number: u16)
+        requires side { IsSide _config.now self.old }
+        requires writer { HasWriter writer self.old }
+        ensures side { IsSide (config_beginning self.old.index writer number _config.now) self.new }
+        ensures begun { HasSideBegun writer number self.old self.new }
+    {
+        self.group.begin_at(writer, number);
     }
 
     /// Switches the writer with this index on or off.
@@ -164,10 +201,10 @@ impl Side {
         requires side { IsSide config.now self.old }
         requires rows { AreRowsOf config.now.dataset rows.now }
         requires senders { All IsSender senders.old }
-        requires reserved { IsReserved out.old }
+        requires reserved { HasRoom config.now out.old }
         ensures side { IsSide config.now self.new }
         ensures senders { All IsSender senders.new }
-        ensures reserved { IsReserved out.new }
+        ensures reserved { HasRoom config.now out.new }
         ensures turned { IfSome result (HasTurned config.now moment rows.now
             (sender_for config.now senders.old self.old.index) self.old self.new out.new) }
         ensures not { IfNone result (self.new ≡ self.old) }
@@ -201,9 +238,9 @@ impl Side {
         requires good { IsGood config.now }
         requires side { IsSide config.now self.old }
         requires rows { AreRowsOf config.now.dataset rows.now }
-        requires reserved { IsReserved out.old }
+        requires reserved { HasRoom config.now out.old }
         ensures side { IsSide config.now self.new }
-        ensures reserved { IsReserved out.new }
+        ensures reserved { HasRoom config.now out.new }
         ensures turned { IfSome result (HasTurned config.now moment rows.now None
             self.old self.new out.new) }
         ensures not { IfNone result (self.new ≡ self.old) }
@@ -216,7 +253,7 @@ impl Side {
         let metas = config.dataset.as_slice();
         Some(
             self.group
-                .tick(config, metas, moment, rows, &self.on, None, false, out),
+                .tick_within(config, metas, moment, rows, &self.on, None, false, out),
         )
     }
 
@@ -233,10 +270,10 @@ impl Side {
         requires side { IsSide config.now self.old }
         requires rows { AreRowsOf config.now.dataset rows.now }
         requires sender { IsSender sender.old }
-        requires reserved { IsReserved out.old }
+        requires reserved { HasRoom config.now out.old }
         ensures side { IsSide config.now self.new }
         ensures sender { IsSender sender.new }
-        ensures reserved { IsReserved out.new }
+        ensures reserved { HasRoom config.now out.new }
         ensures turned { IfSome result (HasTurned config.now moment rows.now (Some sender.old)
             self.old self.new out.new) }
         ensures not { IfNone result (self.new ≡ self.old) }
@@ -254,7 +291,7 @@ impl Side {
         let sender = Some(sender);
         Some(
             self.group
-                .tick(config, metas, moment, rows, &self.on, sender, false, out),
+                .tick_within(config, metas, moment, rows, &self.on, sender, false, out),
         )
     }
 }

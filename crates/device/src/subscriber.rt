@@ -7,16 +7,19 @@ ghost use Rattle.message_guard.specs.Protection.{keys_in};
 ghost use Rattle.reader_group.specs.Groups as reads;
 ghost use Rattle.ps_config.specs.Reading.{configuration, IsEnd};
 ghost use Rattle.ps_config.specs.Sound.{IsSound};
+ghost use Rattle.uadp_header.specs.Reading.{GivesHeader};
 ghost use Rattle.writer_group.specs.Standing.{IsGood};
 ghost use Rattle.row_words.specs.Words.{scalar_in};
 ghost use Rattle.device.specs.Due.{AreInTime, HasTimeout, TellsFirst};
 ghost use Rattle.device.specs.Readings.{HasAge, HasFieldStatus, HasFieldValue, HasKeysRenewed, HasLastTaken, HasNoMisfit, HasNumber, HasReaderSwitched, HasRefused, HaveExpired, IsConfirmedFor, IsFreshFor, IsNoReader, IsNoticeFor, IsOfKind, IsOfOtherKind, IsReaderAt, IsStale, IsUnconfirmed, IsUntold, IsUntoldAt, Keeps, ReaderKeeps, meta_for};
 ghost use Rattle.device.specs.Sides.{AreOpeningListenings, FitsReadGroup, HasListened, IsListening, IsSubscriber, ReadsLongKeys, ReadsNoKeys};
+ghost use Rattle.device.specs.Takings.{AnswersNoOthers, HasTaken, HaveTaken};
 
 use crate::asked::NoValue;
 use crate::due::earlier;
 use crate::listening::Listening;
 use crate::making::{has_long_keys, keygroup_of, listenings_of};
+use crate::takings::{MOST_READ_GROUPS, Takings};
 use crate::words::is_scalar_at;
 use dataset_meta::Meta;
 use dataset_reader::Reader;
@@ -24,13 +27,20 @@ use group_keys::Ring;
 use ps_config::{Config, ConfigEnd, read_config};
 use reader_group::{Notice, Refusal, Refused, Taken, TokenNumber};
 use std::alloc::Global;
+use ua_base::NoMemory;
 use ua_values::{Kind, Value};
+use uadp_header::{Header, HeaderFault, read_header};
+
+/// The most bytes of a datagram that `Subscriber::take` takes: more than UDP carries.
+pub const MOST_BYTES: usize = 65_536;
 
 /// The read groups of a configuration (OPC 10000-14 6.2.8, ReaderGroup). All readers are on at first.
 #[derive(Drop)]
 pub struct Subscriber {
     pub config: Config,
     pub groups: Vec<Listening>,
+    /// For the copy of a datagram that a read group decrypts.
+    pub room: Vec<u8>,
 }
 
 impl Subscriber {
@@ -43,9 +53,9 @@ impl Subscriber {
         ensures refused { IfErr result (IsEnd (configuration text.now)) }
     {
         let config = read_config(alloc, text)?;
-        match listenings_of(alloc, &config) {
-            Ok(groups) => Ok(Subscriber { config, groups }),
-            Err(_) => Err(ConfigEnd::Memory),
+        match subscriber_of(alloc, config) {
+            Ok(subscriber) => Ok(subscriber),
+            Err(NoMemory) => Err(ConfigEnd::Memory),
         }
     }
 
@@ -71,6 +81,46 @@ impl Subscriber {
             return None;
         }
         Some(self.groups[index].datagram(&self.config, now, bytes))
+    }
+
+    /// A datagram comes to all read groups at `now`, in milliseconds: what `datagram` does for each of them in their order, each with a
+    /// copy of its own. The header is read once, and a copy is made for those alone that don't refuse the datagram by it. The bytes stay.
+    pub fn take(&mut self, now: u64, bytes: &[u8]) -> Takings
+        requires subscriber { IsSubscriber self.old }
+        requires room { length bytes.now ≤ MOST_BYTES }
+        ensures subscriber { IsSubscriber self.new }
+        ensures taken { HaveTaken (length self.old.groups.items) now bytes.now result.answers
+            self.old self.new }
+        ensures others { AnswersNoOthers (length self.old.groups.items) result.answers }
+    {
+        let read = read_header(bytes);
+        let mut answers = [None; MOST_READ_GROUPS];
+        for g in 0..self.groups.len() {
+            answers[g] = Some(self.take_one(g, now, bytes, &read));
+        }
+        Takings { answers }
+    }
+
+    /// A datagram whose header was read so comes to the read group at this index.
+    fn take_one(
+        &mut self,
+        index: usize,
+        now: u64,
+        bytes: &[u8],
+        read: &Result<(Header<'_>, usize), HeaderFault>,
+    ) -> Result<Taken, Refusal>
+        requires subscriber { IsSubscriber self.old }
+        requires index { index < length self.old.groups.items }
+        requires room { length bytes.now ≤ MOST_BYTES }
+        requires read { GivesHeader read.now bytes.now }
+        ensures subscriber { IsSubscriber self.new }
+        ensures taken { HasTaken index now bytes.now self.old self.new (Some result) }
+    {
+        let listening = &mut self.groups[index];
+        match listening.refuse(&self.config, bytes, read) {
+            Some(refusal) => Err(refusal),
+            None => listening.datagram_copied(&self.config, now, bytes, &mut self.room),
+        }
     }
 
     /// Time goes on to `now`, in milliseconds, for all readers (`ReaderGroup::expire`).
@@ -290,6 +340,23 @@ impl Subscriber {
         self.groups[index].renew(&self.config, ring);
         true
     }
+}
+
+/// The subscriber of a configuration, before any datagram.
+fn subscriber_of(alloc: Global, config: Config) -> Result<Subscriber, NoMemory>
+    requires { IsGood config }
+    ensures subscriber { IfOk result IsSubscriber }
+    ensures config { IfOk result (λ subscriber. subscriber.config ≡ config) }
+    ensures groups { IfOk result (λ subscriber.
+        AreOpeningListenings config subscriber.groups.items) }
+{
+    let groups = listenings_of(alloc, &config)?;
+    let room = vec![in alloc; 0; MOST_BYTES]?;
+    Ok(Subscriber {
+        config,
+        groups,
+        room,
+    })
 }
 
 /// The value and the status of a field of the row that a reader of the group holds.

@@ -1,5 +1,5 @@
 -- A reader that reads by *Records*, and to which nothing comes but what its writer answered, holds a row that this sent, at whichever length.
-use Rattle.std.proofs.Common.{◌≡◌, refl, sym, ◌∙◌, subst, ℕ, List, Option, Some, None}
+use Rattle.std.proofs.Common.{◌≡◌, refl, sym, ◌∙◌, subst, ℕ, List, Option, Some, None, All}
 use Rattle.std.specs.Prelude.{◌%◌, option_map}
 use Rattle.seq_number.specs.Numbers.{number_of_place}
 use Rattle.dataset_meta.specs.DataValues.{DataValue}
@@ -8,7 +8,7 @@ use Rattle.dataset_reader.specs.Keeping.{KeepsBy}
 use Rattle.dataset_reader.specs.Kept.{Kept}
 use Rattle.pubsub_model.specs.Answers.{IsRowSent}
 use Rattle.pubsub_model.specs.Cadence.{Answered, HasRowsOf, Settings, WriterDeed, cadence}
-use Rattle.pubsub_model.specs.Records.{Arrival, Held, held}
+use Rattle.pubsub_model.specs.Records.{Arrival, Held, held, since_cut}
 use Rattle.pubsub_model.proofs.BareRows.{bare-sent}
 use Rattle.pubsub_model.proofs.HeldRows.{held-sent}
 use Rattle.config_tables.specs.declared.words.NumberingWord.{NumberingWord}
@@ -38,10 +38,12 @@ module _ (meta : MetaData) (s : Settings) (deeds : List WriterDeed) (now : MetaD
         number_is = λ n is. (let both : Some n ≡ Some (number_of_place h.place) = sym is ∙ number_is in cc);
       }
 
-  pub held-row : (word : NumberingWord) (kept : Kept) (row : List DataValue) → ItemsAre (IsAnswerBy word meta answered) arrivals → KeepsBy (numbering_of word) arrivals kept → kept.row ≡ Some row → IsSentRow meta answered kept.number row
-  held-row words.Message kept row items keeps e =
-      held-case (held arrivals) kept.number row
-      (λ h is_held. held-sent now meta s deeds arrivals h rows (items-since _ arrivals items) is_held) keeps.over.number (sym keeps.over.row ∙ e)
-  held-row words.None kept row items keeps e =
-      let sent = bare-sent now meta s deeds arrivals row rows (items-since _ arrivals items) (sym keeps.row ∙ e) in
+  pub held-since : (word : NumberingWord) (kept : Kept) (row : List DataValue) → All (IsAnswerBy word meta answered) (since_cut arrivals) → KeepsBy (numbering_of word) arrivals kept → kept.row ≡ Some row → IsSentRow meta answered kept.number row
+  held-since words.Message kept row items keeps e =
+      held-case (held arrivals) kept.number row (λ h is_held. held-sent now meta s deeds arrivals h rows items is_held) keeps.over.number (sym keeps.over.row ∙ e)
+  held-since words.None kept row items keeps e =
+      let sent = bare-sent now meta s deeds arrivals row rows items (sym keeps.row ∙ e) in
       record { place = sent.place; sent = sent.sent; number_is = λ n is. (let both : Path (Option ℕ) None (Some n) = sym keeps.number ∙ is in absurd (cc)) }
+
+  pub held-row : (word : NumberingWord) (kept : Kept) (row : List DataValue) → ItemsAre (IsAnswerBy word meta answered) arrivals → KeepsBy (numbering_of word) arrivals kept → kept.row ≡ Some row → IsSentRow meta answered kept.number row
+  held-row word kept row items keeps e = held-since word kept row (items-since (IsAnswerBy word meta answered) arrivals items) keeps e

@@ -21,7 +21,7 @@ use Rattle.device.specs.declared.looking.Looked.{Looked}
 use Rattle.device.specs.declared.looking.Looked.TheVariants.{Held, Idle, Made}
 use Rattle.device.specs.declared.publisher.Publisher.{Publisher}
 use Rattle.device.specs.declared.side.Side.{Side}
-use Rattle.device_laws.specs.Publishing.{ArePublisherSteps, CameTo, ComesBy, HandedOver, HasOffered, IsOpenPublisher, IsPublisherCall, Waits, Offers, PublisherCall, PublisherStep, Refused, Renewed, Resumed, SetField, SetStatus, SetWord, Switched, Waited, publisher_after}
+use Rattle.device_laws.specs.Publishing.{ArePublisherSteps, CameTo, ComesBy, HandedOver, HasOffered, IsOpenPublisher, IsPublisherCall, Waits, Offers, PublisherCall, PublisherStep, Aside, Renewed, Resumed, SetField, SetStatus, SetWord, Switched, Waited, publisher_after}
 use Rattle.device_laws.specs.Turning.{came_on, fresh_on, looked_on, past_by, past_of, turn_at}
 use Rattle.device_laws.proofs.Elements.{element, push-own, zip-length}
 use Rattle.device_laws.proofs.Looking.{made-turn, place-low, sides-length}
@@ -46,7 +46,7 @@ sides-on (Renewed k sets) old new is_old is_new has = ap (λ (p : Publisher). le
 sides-on (Resumed k now used sets) old new is_old is_new has =
     let d = element old.senders.items k has.within in
     sym (zip-length (IsRefreshedWith old.config k (HasOtherToken (get_or old.senders.items k d) (get_or new.senders.items k d))) old.sides.items new.sides.items (has.refreshed d d))
-sides-on Refused old new is_old is_new has = ap (λ (p : Publisher). length p.sides.items) has.rest
+sides-on Aside old new is_old is_new has = ap (λ (p : Publisher). length p.sides.items) has.rest
 
 pub sides-at : (text : List ℕ) (first : Publisher) (steps : List PublisherStep) → IsOpenPublisher text first → ArePublisherSteps first steps → length (publisher_after first steps).sides.items ≡ length first.config.group
 sides-at text first [] opened are =
@@ -159,7 +159,7 @@ module _ (text : List ℕ) (first : Publisher) (opened : IsOpenPublisher text fi
   all-on step before (Switched group writer on) same are is has all = all-rest first step before (ap (λ (p : Publisher). p.out) has.rest) (ap (λ (p : Publisher). p.made) has.rest) (ap (λ (p : Publisher). p.handed) has.rest) all
   all-on step before (Renewed k sets) same are is has all = all-rest first step before (ap (λ (p : Publisher). p.out) has.rest) (ap (λ (p : Publisher). p.made) has.rest) (ap (λ (p : Publisher). p.handed) has.rest) all
   all-on step before (Resumed k now used sets) same are is has all = all-rest first step before (ap (λ (p : Publisher). p.out) has.rest) (ap (λ (p : Publisher). p.made) has.rest) (ap (λ (p : Publisher). p.handed) has.rest) all
-  all-on step before Refused same are is has all = all-rest first step before (ap (λ (p : Publisher). p.out) has.rest) (ap (λ (p : Publisher). p.made) has.rest) (ap (λ (p : Publisher). p.handed) has.rest) all
+  all-on step before Aside same are is has all = all-rest first step before (ap (λ (p : Publisher). p.out) has.rest) (ap (λ (p : Publisher). p.made) has.rest) (ap (λ (p : Publisher). p.handed) has.rest) all
 
   all-at : (steps : List PublisherStep) → ArePublisherSteps first steps → AllMade first steps (publisher_after first steps)
   all-at [] are = all-none text first opened

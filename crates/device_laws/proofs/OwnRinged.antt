@@ -4,20 +4,20 @@ use Rattle.std.specs.Prelude.{Option}
 use Rattle.std.proofs.lemmas.List.Elements.{All-contains, All-contains_itself}
 use Rattle.group_keys.specs.declared.key_set.KeySet.{KeySet}
 use Rattle.message_guard.specs.declared.keys.TokenKeys.{TokenKeys}
+use Rattle.message_guard.specs.Guards.{Setup}
 use Rattle.message_guard.specs.Protection.{keys_in, keys_with}
 use Rattle.ps_config.specs.declared.parts.Config.{Config}
 use Rattle.ps_config.specs.declared.parts.ReadGroupPart.{ReadGroupPart}
 use Rattle.ps_config.specs.Headers as configured
 use Rattle.ps_config.specs.Rings.{key_set}
 use Rattle.ps_config.specs.Sound.{IsKeyed}
-use Rattle.reader_group.specs.Plain.{Setting}
 use Rattle.reader_group.specs.Settings.{keygroup_at, no_keygroup, setup_by}
 use Rattle.reader_group.proofs.Made.{ring-keys}
 use Rattle.writer_group.specs.Parts.{group_at, no_group}
 use Rattle.turn_laws.specs.Lives.{TokensNameKeys}
 use Rattle.device_laws.specs.Deeds.{AreUnresumed}
 use Rattle.device_laws.specs.Devices.{ArePaired}
-use Rattle.device_laws.specs.Publishing.{AreOwnRings, CameTo, HandedOver, KeepsRing, PublisherCall, PublisherLife, PublisherStep, Refused, Renewed, Resumed, SetField, SetStatus, SetWord, Switched, Waited, config_in}
+use Rattle.device_laws.specs.Publishing.{AreOwnRings, CameTo, HandedOver, KeepsRing, PublisherCall, PublisherLife, PublisherStep, Aside, Renewed, Resumed, SetField, SetStatus, SetWord, Switched, Waited, config_in}
 use Rattle.device_laws.specs.Pulled.{IsKnownBy}
 use Rattle.device_laws.specs.Ringed.{AllKeysAreAmong, AreKeysAmong, IsRingedPair, KeysAreAmong, RingIsAmong, RingsAreAmong}
 use Rattle.device_laws.specs.Subscribing as reads
@@ -50,7 +50,7 @@ one-among config k (Switched group writer on) keeps = tt
 one-among config k (Renewed keygroup sets) keeps = λ e.
     subst (λ (n : ℕ). All (Contains (own_sets config n)) sets) e (subst (All (Contains (own_sets config keygroup))) (sym (keeps no_keygroup)) (All-contains_itself (own_sets config keygroup)))
 one-among config k (Resumed keygroup now used sets) keeps = tt
-one-among config k Refused keeps = tt
+one-among config k Aside keeps = tt
 
 rings-among : (config : Config) (k : ℕ) (steps : List PublisherStep) → AreOwnRings config steps → RingsAreAmong k (own_sets config k) steps
 rings-among config k [] own = tt
@@ -60,6 +60,7 @@ rings-among config k (step ∷ before) own = (one-among config k step.call own.0
 
 keys-among : (r : ℕ) (all : List KeySet) (own : List TokenKeys) (call : SubscriberCall) → AreKeysAmong all own → KeepsKeys call r own → KeysAreAmong r all call
 keys-among r all own (reads.Came group now datagram answer) are keeps = tt
+keys-among r all own (reads.Took now datagram answers) are keeps = tt
 keys-among r all own (reads.Expired now) are keeps = tt
 keys-among r all own (reads.Switched group reader on) are keeps = tt
 keys-among r all own (reads.Renewed group new) are keeps = λ e. subst (AreKeysAmong all) (sym (keeps e)) are
@@ -83,14 +84,14 @@ own-ringed text other pl sl readers r i g w k are keyed unresumed =
     let first : AreKeysAmong (own_sets config k) (setting_in sl r).setup.keys = record {
       sets = own_sets config k;
       among = All-contains_itself (own_sets config k);
-      are = ap (λ (s : Setting). s.setup.keys) are.set_as ∙ ap (λ (o : Option ℕ). (setup_by config readers o).keys) reads_with ∙ sym (ring-keys (keygroup_at config k).key);
+      are = ap (λ (setup : Setup). setup.keys) are.alike.setup ∙ ap (λ (o : Option ℕ). (setup_by config readers o).keys) reads_with ∙ sym (ring-keys (keygroup_at config k).key);
     } in
     record {
       publisher = are.publisher;
       subscriber = are.subscriber;
       there = are.there;
       read_there = are.read_there;
-      set_as = are.set_as;
+      alike = are.alike;
       matched = are.matched;
       keyed = keyed;
       took = are.took;

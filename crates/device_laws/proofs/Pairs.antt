@@ -1,9 +1,8 @@
 -- Two devices: what the subscriber holds is what the publisher published.
-use Rattle.std.proofs.Common.{◌≡◌, ◌≢◌, refl, sym, ap, ◌∙◌, subst, ℕ, ◌<◌, ◌≤◌, Bool, true, false, List, [], ◌∷◌, length, inl, inr, Some}
-use Rattle.std.specs.Prelude.{◌⊎◌, ◌==◌, ◌&&◌, not, Result, Ok}
+use Rattle.std.proofs.Common.{◌≡◌, refl, sym, ap, ◌∙◌, subst, ℕ, ◌<◌, ◌≤◌, Bool, true, false, List, [], ◌∷◌, length, inl, inr, Option, Some, None}
+use Rattle.std.specs.Prelude.{◌==◌, ◌&&◌, not, slice_index_or, Result, Ok}
 use Rattle.std.specs.List.{cons_option}
-use Rattle.std.proofs.lemmas.Bool.Decides.{eqb_tells}
-use Rattle.std.proofs.lemmas.Option.{get_or_from_slice_get, slice_get-get_or}
+use Rattle.std.proofs.lemmas.Option.{get_or_from_slice_get, slice_get-get_or, slice_get_within}
 use Rattle.dataset_meta.specs.DataValues.{DataValue}
 use Rattle.message_guard.specs.Acceptance.{Accepted}
 use Rattle.message_guard.specs.declared.keys.TokenKeys.{TokenKeys}
@@ -34,17 +33,21 @@ use Rattle.session_laws.specs.Below.{RingLaw}
 use Rattle.session_laws.specs.Pasts.{CameAsMade, IsMade}
 use Rattle.session_laws.specs.Plays.{ComesFromWriter, HoldsVersion, IsPlay, Play, its_marks, its_member, its_meta, its_way}
 use Rattle.device.specs.declared.listening.Listening.{Listening}
+use Rattle.device.specs.declared.publisher.Publisher.{Publisher}
 use Rattle.device.specs.declared.subscriber.Subscriber.{Subscriber}
 use Rattle.device.specs.Readings.{IsReaderAt}
 use Rattle.device.specs.Sides.{HasListened, TakesNumber}
+use Rattle.device.specs.Takings.{HaveTaken}
 use Rattle.device_laws.specs.Devices.{ArePaired, ArePairedByOne, HasSentFew, HoldsNamed, IsCounted, member_in, play_of}
-use Rattle.device_laws.specs.Publishing.{HasOffered, PublisherLife, config_in}
-use Rattle.device_laws.specs.Subscribing.{AreOwnKeys, AreSubscriberSteps, Came, Expired, IsOpenSubscriber, IsSubscriberCall, IsTaken, Only, Reading, Refused, Renewed, SubscriberCall, SubscriberLife, SubscriberStep, Switched, TakenAre, event_by, events, events_in, is_for, reading, readers_on, setting_in, some_if, subscriber_after, subscriber_in}
+use Rattle.device_laws.specs.Publishing.{HasOffered, IsOpenPublisher, PublisherLife, config_in}
+use Rattle.device_laws.specs.Subscribing.{AreOwnKeys, AreSubscriberSteps, Came, Expired, IsOpenSubscriber, IsSubscriberCall, IsTaken, Only, Reading, Refused, Renewed, SubscriberCall, SubscriberLife, SubscriberStep, Switched, TakenAre, Took, event_by, events, events_in, is_for, reading, readers_on, setting_in, some_if, subscriber_after, subscriber_in, takes_at}
 use Rattle.device_laws.specs.Turning.{past_in}
+use Rattle.device_laws.proofs.Alike.{alike-came, alike-member, alike-same, seated}
 use Rattle.device_laws.proofs.WholeRows.{named-sent}
-use Rattle.device_laws.proofs.Heard.{keeps-member, plain-reading, stands-at, subscriber-is}
+use Rattle.device_laws.proofs.AllTaken.{CameAlone, StandsSame, as-came, came-alone}
+use Rattle.device_laws.proofs.Heard.{for-alone, keeps-member, own-index, plain-reading, stands-at, subscriber-is}
 use Rattle.device_laws.proofs.Offered.{offered-made}
-use Rattle.device_laws.proofs.Reaching.{Tells, reach}
+use Rattle.device_laws.proofs.Reaching.{Misses, Reaches, Tells, reach}
 use Rattle.device_laws.proofs.Publishes.{is-past}
 
 -- ---- what the laws below say of a play
@@ -76,6 +79,7 @@ if-restarts false event list one all = all
 
 pub restarts-on : (call : SubscriberCall) (old : Subscriber) (r : ℕ) (list : List Event) → AreRestarts list → AreRestarts (cons_option (event_by call old r) list)
 restarts-on (Came group now datagram answer) old r list all = if-restarts (is_for old group r datagram) (befalls.Got now (readers_on old r) datagram) list all all
+restarts-on (Took now datagram answers) old r list all = if-restarts (takes_at old r datagram) (befalls.Got now (readers_on old r) datagram) list all all
 restarts-on (Expired now) old r list all = all
 restarts-on (Switched group reader on) old r list all = if-restarts ((group == r) && not on) (befalls.Stopped reader Restarted) list (refl, all) all
 restarts-on (Renewed group keys) old r list all = all
@@ -91,39 +95,72 @@ are-restarts first r (step ∷ before) = restarts-on step.call (subscriber_after
 pub taken-with : (group now r : ℕ) (datagram : List ℕ) (is : Result Taken Refusal) (taken : Taken) (P : List ℕ → Type 0) → is ≡ Ok taken → group ≡ r → IsTaken (Came group now datagram is) r P → P datagram
 taken-with group now r datagram is taken P e hit has = subst (λ (a : Result Taken Refusal). IsTaken (Came group now datagram a) r P) e has hit
 
--- what a call answers to a datagram is what the reading has, with the keys that the group has then
-pub answer-told : (text : List ℕ) (first : Subscriber) (r : ℕ) → IsOpenSubscriber text first → r < length first.config.readgroup → (before : List SubscriberStep) → AreSubscriberSteps first before
-    → (now : ℕ) (datagram left : List ℕ) (is : Result Taken Refusal) (new : Subscriber) → HasListened r now datagram left (subscriber_after first before) new is
-    → TakesNumber r datagram (subscriber_after first before) → (on : List Bool) × (is ≡ answer (with_keys (setting_of first.config r) (reading first before r).keys) (reading first before r).value now on datagram)
-answer-told text first r opened low before are now datagram left is new has takes =
-    let old = subscriber_after first before in
+-- what a call answers to a datagram is what the reading has, with the keys that the group has then: of a subscriber in which the read group stands as after these calls
+answer-same : (text : List ℕ) (first : Subscriber) (r : ℕ) → IsOpenSubscriber text first → r < length first.config.readgroup → (before : List SubscriberStep) → AreSubscriberSteps first before
+    → (now : ℕ) (datagram left : List ℕ) (is : Result Taken Refusal) (old new : Subscriber) → StandsSame r (subscriber_after first before) old → HasListened r now datagram left old new is
+    → TakesNumber r datagram old → (on : List Bool) × (is ≡ answer (with_keys (setting_of first.config r) (reading first before r).keys) (reading first before r).value now on datagram)
+answer-same text first r opened low before are now datagram left is old new same has takes =
+    let last = subscriber_after first before in
     let rd = reading first before r in
     let h = stands-at text first r before opened low are in
     let l = h.listening in
-    let was_at = get_or_from_slice_get old.groups.items r l l h.at in
-    let old_is = subscriber-is text first before opened are in
-    let index : index_of l.group ≡ r =
-    subst (λ (x : Listening). index_of x.group ≡ x.index) was_at (old_is.groups_are r l has.within).index ∙ h.index in
+    let was_at = get_or_from_slice_get old.groups.items r l l (same.at ∙ h.at) in
+    let config_is : old.config ≡ first.config = same.config ∙ h.config in
+    let index : index_of l.group ≡ r = own-index last r l (subscriber-is text first before opened are) h.at ∙ h.index in
     let raw : IsAnswer old.config l.group now l.on.items datagram is = subst (λ (x : Listening). IsAnswer old.config x.group now x.on.items datagram is) was_at (has.answer_is takes l) in (
       l.on.items,
-      subst (λ (c : Config). (keys : List TokenKeys) (value : PlainGroup) → Stands (with_keys (setting_of c r) keys) value l.group → is ≡ answer (with_keys (setting_of c r) keys) value now l.on.items datagram) h.config
+      subst (λ (c : Config). (keys : List TokenKeys) (value : PlainGroup) → Stands (with_keys (setting_of c r) keys) value l.group → is ≡ answer (with_keys (setting_of c r) keys) value now l.on.items datagram) config_is
           (subst (λ (k : ℕ). (keys : List TokenKeys) (value : PlainGroup) → Stands (with_keys (setting_of old.config k) keys) value l.group → is ≡ answer (with_keys (setting_of old.config k) keys) value now l.on.items datagram) index raw)
           rd.keys rd.value h.stands,
     )
 
+pub answer-told : (text : List ℕ) (first : Subscriber) (r : ℕ) → IsOpenSubscriber text first → r < length first.config.readgroup → (before : List SubscriberStep) → AreSubscriberSteps first before
+    → (now : ℕ) (datagram left : List ℕ) (is : Result Taken Refusal) (new : Subscriber) → HasListened r now datagram left (subscriber_after first before) new is
+    → TakesNumber r datagram (subscriber_after first before) → (on : List Bool) × (is ≡ answer (with_keys (setting_of first.config r) (reading first before r).keys) (reading first before r).value now on datagram)
+answer-told text first r opened low before are now datagram left is new has takes =
+    answer-same text first r opened low before are now datagram left is (subscriber_after first before) new (record { at = refl; config = refl }) has takes
+
+-- of one that came to all read groups: what this one answered, and took of it
+pub record TookTold (first : Subscriber) (r : ℕ) (before : List SubscriberStep) (now : ℕ) (datagram : List ℕ) (P : List ℕ → Type 0) : Type 0 where
+  pub given : Result Taken Refusal
+  pub taken : IsTaken (Came r now datagram given) r P
+  pub tells : Tells (takes_at (subscriber_after first before) r datagram)
+      ((on : List Bool) × (given ≡ answer (with_keys (setting_of first.config r) (reading first before r).keys) (reading first before r).value now on datagram)) (Unit {0})
+
+pub took-told : (text : List ℕ) (first : Subscriber) (r : ℕ) → IsOpenSubscriber text first → r < length first.config.readgroup → (before : List SubscriberStep) → AreSubscriberSteps first before
+    → (now : ℕ) (datagram : List ℕ) (answers : List (Option (Result Taken Refusal))) (new : Subscriber) (P : List ℕ → Type 0) → HaveTaken (length (subscriber_after first before).groups.items) now datagram answers (subscriber_after first before) new
+    → IsTaken (Took now datagram answers) r P → TookTold first r before now datagram P
+took-told text first r opened low before are now datagram answers new P has taken =
+    let old = subscriber_after first before in
+    let h = stands-at text first r before opened low are in
+    let c = came-alone (length old.groups.items) now r datagram answers old new h.listening (slice_get_within old.groups.items r h.listening h.at) has in
+    record {
+      given = c.given;
+      taken = as-came r now datagram (slice_index_or answers r None) c.given P c.answer_is taken;
+      tells = told c (is_for c.mid r r datagram) (for-alone old c.mid r datagram c.before) (reach c.mid r r datagram h.listening (c.before.at ∙ h.at));
+    }
+  where
+    Is : Result Taken Refusal → Type 0
+    Is given = (on : List Bool) × (given ≡ answer (with_keys (setting_of first.config r) (reading first before r).keys) (reading first before r).value now on datagram)
+
+    told : (c : CameAlone r now datagram answers (subscriber_after first before) new) (b : Bool) → b ≡ takes_at (subscriber_after first before) r datagram → Tells b (Reaches c.mid r r datagram) (Misses c.mid r r datagram)
+        → Tells (takes_at (subscriber_after first before) r datagram) (Is c.given) (Unit {0})
+    told c b same (inl hit) = inl (sym same ∙ hit.0, answer-same text first r opened low before are now datagram c.left c.given c.mid c.next c.before c.listened hit.1.1)
+    told c b same (inr miss) = inr (sym same ∙ miss.0, tt)
+
 module _ (text : List ℕ) (first : Subscriber) (r : ℕ) (opened : IsOpenSubscriber text first) (low : r < length first.config.readgroup) (P : List ℕ → Type 0) (config : Config) (pasts : ℕ → List GroupDeed) (makes : (datagram : List ℕ) → P datagram → IsMade config pasts datagram) where
-  abbrev S : Setting
+  abbrev pub S : Setting
   S = setting_of first.config r
 
   -- the call's answer is that of the plain reading
-  answer-is : (before : List SubscriberStep) → AreSubscriberSteps first before → AreOwnKeys before r S.setup.keys → (now : ℕ) (datagram left : List ℕ) (is : Result Taken Refusal) (new : Subscriber)
+  pub answer-is : (before : List SubscriberStep) → AreSubscriberSteps first before → AreOwnKeys before r S.setup.keys → (now : ℕ) (datagram left : List ℕ) (is : Result Taken Refusal) (new : Subscriber)
       → HasListened r now datagram left (subscriber_after first before) new is → TakesNumber r datagram (subscriber_after first before) → (on : List Bool) × (is ≡ answer S (plain S (events first before r)) now on datagram)
   answer-is before are own now datagram left is new has takes =
       let told = answer-told text first r opened low before are now datagram left is new has takes in
       (told.0, told.1 ∙ ap (λ (x : Reading). answer (with_keys S x.keys) x.value now told.0 datagram) (plain-reading first r before own))
 
   -- a datagram that the read group took
-  took-made : (list : List Event) (group now : ℕ) (datagram : List ℕ) (is : Result Taken Refusal) (on : List Bool) (opens : Opened) → is ≡ answer S (plain S list) now on datagram → group ≡ r
+  pub took-made : (list : List Event) (group now : ℕ) (datagram : List ℕ) (is : Result Taken Refusal) (on : List Bool) (opens : Opened) → is ≡ answer S (plain S list) now on datagram → group ≡ r
       → IsTaken (Came group now datagram is) r P → verdict S.group S.setup (accepted S list) datagram ≡ Ok opens → IsMade config pasts datagram
   took-made list group now datagram is on opens told hit has e =
       let G = plain S list in
@@ -155,6 +192,13 @@ module _ (text : List ℕ) (first : Subscriber) (r : ℕ) (opened : IsOpenSubscr
       (λ hit opens e.
       let told = answer-is before are own now datagram has.0 is new (subst (λ (k : ℕ). HasListened k now datagram has.0 old new is) hit.0 has.1) hit.1 in
       took-made list group now datagram is told.0 opens told.1 hit.0 taken e) all
+  came-on before are own (Took now datagram answers) new has taken all =
+      let old = subscriber_after first before in
+      let list = events first before r in
+      let t = took-told text first r opened low before are now datagram answers new P has taken in
+      came-if list r now datagram (readers_on old r) (takes_at old r datagram) t.tells
+      (λ told opens e.
+      took-made list r now datagram t.given told.0 opens (told.1 ∙ ap (λ (x : Reading). answer (with_keys S x.keys) x.value now told.0 datagram) (plain-reading first r before own)) refl t.taken e) all
   came-on before are own (Expired now) new has taken all = all
   came-on before are own (Switched group reader on) new has taken all =
       stopped-if (events first before r) ((group == r) && not on) reader Restarted all
@@ -175,9 +219,9 @@ module _ (ring : RingLaw) (text other : List ℕ) (pl : PublisherLife) (sl : Sub
   abbrev its_few : ℕ → Type 0
   its_few most = HasSentFew most pl g w
 
-  came : CameAsMade (setting_by (config_in pl) readers) (config_in pl) (past_in pl) (events_in sl r)
+  pub came : CameAsMade (setting_by (config_in pl) readers) (config_in pl) (past_in pl) (events_in sl r)
   came =
-      subst (λ (s : Setting). CameAsMade s (config_in pl) (past_in pl) (events_in sl r)) are.set_as
+      alike-came i (setting_in sl r) (setting_by (config_in pl) readers) are.alike (config_in pl) (past_in pl) (events_in sl r)
       (came-made other sl.first r are.subscriber.opened are.read_there (HasOffered pl.steps) (config_in pl) (past_in pl)
       (λ datagram has. offered-made text pl.first are.publisher.opened pl.steps are.publisher.steps_are datagram has) sl.steps are.subscriber.steps_are are.keys are.took)
 
@@ -200,7 +244,7 @@ module _ (ring : RingLaw) (text other : List ℕ) (pl : PublisherLife) (sl : Sub
   pub member-is : member_in sl r i ≡ its_member p
   member-is =
       ap (λ (x : Reading). member_at x.value.members i) (plain-reading sl.first r sl.steps are.keys)
-      ∙ ap (λ (s : Setting). member_at (plain s (events_in sl r)).members i) are.set_as
+      ∙ alike-member i (setting_in sl r) (setting_by (config_in pl) readers) are.alike (seated (config_in pl) readers i are.matched.within) (events_in sl r)
 
   pub keeps-by : PlayLaws → HasSentFew 16385 pl g w → MemberIs (its_way p) (its_marks p) (member_in sl r i)
   keeps-by laws few = subst (MemberIs (its_way p) (its_marks p)) (sym member-is) (laws.keeps p (is-play 16385 few))
@@ -224,15 +268,19 @@ module _ (ring : RingLaw) (text other : List ℕ) (pl : PublisherLife) (sl : Sub
 some-ok : {A B : Type 0} (x y : A) → Path (Result A B) (Ok x) (Ok y) → x ≡ y
 some-ok x y e = cc
 
+pub same-config : (text : List ℕ) (publisher : Publisher) (subscriber : Subscriber) → IsOpenPublisher text publisher → IsOpenSubscriber text subscriber → subscriber.config ≡ publisher.config
+same-config text publisher subscriber one other = some-ok subscriber.config publisher.config (sym other.config_is ∙ one.config_is)
+
 pub one-text : (text : List ℕ) (pl : PublisherLife) (sl : SubscriberLife) (r i g w : ℕ) → ArePairedByOne text pl sl r i g w → ArePaired text text pl sl (read_group_at (config_in pl) r) r i g w
 one-text text pl sl r i g w are =
-    let same : sl.first.config ≡ config_in pl = some-ok sl.first.config (config_in pl) (sym are.subscriber.opened.config_is ∙ are.publisher.opened.config_is) in
+    let same : sl.first.config ≡ config_in pl = same-config text pl.first sl.first are.publisher.opened are.subscriber.opened in
     record {
       publisher = are.publisher;
       subscriber = are.subscriber;
       there = are.there;
       read_there = are.read_there;
-      set_as = ap (λ (c : Config). setting_of c r) same;
+      alike = alike-same i (setting_in sl r) (setting_of (config_in pl) r) (ap (λ (c : Config). setting_of c r) same)
+          (seated (config_in pl) (read_group_at (config_in pl) r) i are.matched.within);
       matched = are.matched;
       rings = are.rings;
       keys = are.keys;

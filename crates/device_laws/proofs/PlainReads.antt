@@ -21,6 +21,7 @@ use Rattle.device_laws.specs.Publishing.{HasOffered, PublisherLife, config_in}
 use Rattle.device_laws.specs.Pulled.{config_with}
 use Rattle.device_laws.specs.Subscribing.{Reading, SubscriberLife, events_in, setting_in, subscriber_in}
 use Rattle.device_laws.specs.Turning.{past_in}
+use Rattle.device_laws.proofs.Alike.{alike-came, alike-member, seated}
 use Rattle.device_laws.proofs.WholeRows.{named-sent}
 use Rattle.device_laws.proofs.Heard.{keeps-member, plain-reading}
 use Rattle.device_laws.proofs.Offered.{offered-made}
@@ -53,7 +54,7 @@ module _ (text other : List ℕ) (pl : PublisherLife) (sl : SubscriberLife) (rea
 
   came : CameAsMade (setting_by own readers) ringed (past_in pl) (events_in sl r)
   came =
-      subst (λ (s : Setting). CameAsMade s ringed (past_in pl) (events_in sl r)) is.set_as
+      alike-came i (setting_in sl r) (setting_by own readers) is.alike ringed (past_in pl) (events_in sl r)
       (came-made other sl.first r is.subscriber.opened is.read_there (HasOffered pl.steps) ringed (past_in pl) made-now sl.steps is.subscriber.steps_are is.keys is.took)
 
   matched1 : IsMatchedTo ringed readers i (group_at own g) w
@@ -80,7 +81,8 @@ module _ (text other : List ℕ) (pl : PublisherLife) (sl : SubscriberLife) (rea
   member-is : member_in sl r i ≡ its_member p
   member-is =
       ap (λ (x : Reading). member_at x.value.members i) (plain-reading sl.first r sl.steps is.keys)
-      ∙ ap (λ (s : Setting). member_at (plain s (events_in sl r)).members i) (is.set_as ∙ sym its-setting)
+      ∙ alike-member i (setting_in sl r) (setting_by own readers) is.alike (seated own readers i is.matched.within) (events_in sl r)
+      ∙ ap (λ (s : Setting). member_at (plain s (events_in sl r)).members i) (sym its-setting)
 
   whole-held : PlayLaws → MetaLaw → (row : List DataValue) → IsCounted pl → HasSentFew 16385 pl g w → (member_in sl r i).kept.row ≡ Some row → HoldsNamed pl g w (member_in sl r i).kept.number row
   whole-held laws law row counted few e =

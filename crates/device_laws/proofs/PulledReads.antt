@@ -10,6 +10,7 @@ use Rattle.dataset_reader.specs.Reader.{kept_by}
 use Rattle.dataset_reader.specs.declared.reader.Reader.{Reader}
 use Rattle.group_keys.specs.declared.key_set.KeySet.{KeySet}
 use Rattle.message_guard.specs.Modes.{is_secured}
+use Rattle.message_guard.specs.Guards.{Setup}
 use Rattle.message_guard.specs.Protection.{keys_in}
 use Rattle.message_guard.specs.declared.keys.TokenKeys.{TokenKeys}
 use Rattle.pubsub_model.specs.declared.reading.Why.TheVariants.{Restarted}
@@ -38,17 +39,19 @@ use Rattle.turn_laws.proofs.Signed.{matched-secured}
 use Rattle.device.specs.declared.subscriber.Subscriber.{Subscriber}
 use Rattle.device.specs.Readings.{IsReaderAt}
 use Rattle.device.specs.Sides.{HasListened}
+use Rattle.device_laws.specs.Alike.{ReadsAlike}
 use Rattle.device_laws.specs.Devices.{HasSentFew, HoldsNamed, IsCounted, member_in}
 use Rattle.device_laws.specs.Publishing.{HasOffered, PublisherLife, config_in}
 use Rattle.device_laws.specs.Pulled.{AllKeysAreKnown, AreKnownKeys, IsPulledPair, KeysAreKnown, config_with}
-use Rattle.device_laws.specs.Subscribing.{AreSubscriberSteps, Came, Expired, IsOpenSubscriber, IsSubscriberCall, IsTaken, Only, Reading, Refused, Renewed, SubscriberCall, SubscriberLife, SubscriberStep, Switched, TakenAre, event_by, is_for, keys_by, read_if, reading, readers_on, setting_in, some_if, subscriber_after, subscriber_in}
+use Rattle.device_laws.specs.Subscribing.{AreSubscriberSteps, Came, Expired, IsOpenSubscriber, IsSubscriberCall, IsTaken, Only, Reading, Refused, Renewed, SubscriberCall, SubscriberLife, SubscriberStep, Switched, TakenAre, Took, event_by, is_for, keys_by, read_if, reading, readers_on, setting_in, some_if, subscriber_after, subscriber_in, takes_at}
 use Rattle.device_laws.specs.Turning.{past_in}
+use Rattle.device_laws.proofs.Alike.{alike-came, alike-keys, alike-member, seated}
 use Rattle.device_laws.proofs.WholeRows.{named-sent}
 use Rattle.device_laws.proofs.Heard.{keeps-member, stands-at}
 use Rattle.device_laws.proofs.Reaching.{Tells, reach}
 use Rattle.device_laws.proofs.Offered.{offered-made}
 use Rattle.device_laws.proofs.OtherRings.{keyed-setting, known-more, rings-fixed, rings-sound}
-use Rattle.device_laws.proofs.Pairs.{MetaLaw, PlayLaws, answer-told, meta-law, restarts-on, taken-with}
+use Rattle.device_laws.proofs.Pairs.{MetaLaw, PlayLaws, answer-told, meta-law, restarts-on, taken-with, took-told}
 use Rattle.device_laws.proofs.PulledTurns.{pulled-past}
 
 -- ---- one read group, over the calls of its subscriber
@@ -124,6 +127,7 @@ module _ (text : List ℕ) (first : Subscriber) (r : ℕ) (opened : IsOpenSubscr
 
   keys-on : (call : SubscriberCall) (rd : Reading) → KeysAreKnown r sets call → IsPlain rd → IsPlain (record rd { keys = keys_by call r rd.keys })
   keys-on (Came group now datagram answer) rd among h = h
+  keys-on (Took now datagram answers) rd among h = h
   keys-on (Expired now) rd among h = h
   keys-on (Switched group reader on) rd among h = h
   keys-on (Renewed group keys) rd among h = keys-if group keys rd (group == r) (eqb_tells group r) among h
@@ -159,6 +163,11 @@ module _ (text : List ℕ) (first : Subscriber) (r : ℕ) (opened : IsOpenSubscr
       (λ hit opens e.
       let told = answer-told text first r opened low before are now datagram has.0 is new (subst (λ (k : ℕ). HasListened k now datagram has.0 old new is) hit.0 has.1) hit.1 in
       came-made rd group now datagram is told.0 opens told.1 hit.0 taken e)
+  taken-on before are (Took now datagram answers) new has taken =
+      let old = subscriber_after first before in
+      let rd = reading first before r in
+      let t = took-told text first r opened low before are now datagram answers new P has taken in
+      taken-if rd r now datagram (readers_on old r) (takes_at old r datagram) t.tells (λ told opens e. came-made rd r now datagram t.given told.0 opens told.1 refl t.taken e)
   taken-on before are (Expired now) new has taken = tt
   taken-on before are (Switched group reader on) new has taken = stopped-if (reading first before r) ((group == r) && not on) reader
   taken-on before are (Renewed group keys) new has taken = tt
@@ -190,14 +199,14 @@ module _ (text other : List ℕ) (pl : PublisherLife) (sl : SubscriberLife) (rea
 
   secured1 : is_secured (setting_in sl r).setup.mode ≡ true
   secured1 =
-      subst (λ (s : Setting). is_secured s.setup.mode ≡ true) (sym is.set_as)
+      subst (λ (setup : Setup). is_secured setup.mode ≡ true) (sym is.alike.setup)
       (matched-secured own readers i g w k is.publisher.opened.is.good.sound (record { there = is.there; within = is.matched.reads.within; keyed = is.keyed }) is.matched)
 
   first-keys : AreKnownKeys (sets k) (setting_in sl r).setup.keys
   first-keys = record {
     ring = map key_set (keygroup_at own k).key;
     known = is.configured k low-key;
-    are = ap (λ (s : Setting). s.setup.keys) is.set_as ∙ ap (λ (o : Option ℕ). (setup_by own readers o).keys) reads-with ∙ sym (ring-keys (keygroup_at own k).key);
+    are = ap (λ (setup : Setup). setup.keys) is.alike.setup ∙ ap (λ (o : Option ℕ). (setup_by own readers o).keys) reads-with ∙ sym (ring-keys (keygroup_at own k).key);
   }
 
   made-now : (datagram : List ℕ) → HasOffered pl.steps datagram → IsMade ringed (past_in pl) datagram
@@ -215,8 +224,18 @@ module _ (text other : List ℕ) (pl : PublisherLife) (sl : SubscriberLife) (rea
   p = record { config = ringed; index = g; group = group_at own g; writer = w; readers = readers; reader = i; pasts = past_in pl; events = read.events }
 
   -- the setting of the configuration with the other rings
-  its-setting : setting_by ringed readers ≡ with_keys (setting_in sl r) (map keys_in (sets k))
-  its-setting = keyed-setting own sets readers k reads-with low-key ∙ ap (λ (s : Setting). with_keys s (map keys_in (sets k))) (sym is.set_as)
+  abbrev theirs : Setting
+  theirs = with_keys (setting_by own readers) (map keys_in (sets k))
+
+  its-setting : setting_by ringed readers ≡ theirs
+  its-setting = keyed-setting own sets readers k reads-with low-key
+
+  -- of that the reader reads alike
+  abbrev ours : Setting
+  ours = with_keys (setting_in sl r) (map keys_in (sets k))
+
+  alike : ReadsAlike i ours theirs
+  alike = alike-keys i (setting_in sl r) (setting_by own readers) (map keys_in (sets k)) is.alike
 
   matched1 : IsMatchedTo ringed readers i (group_at own g) w
   matched1 =
@@ -234,14 +253,16 @@ module _ (text other : List ℕ) (pl : PublisherLife) (sl : SubscriberLife) (rea
     there = slice_get-get_or own.group g no_group is.there;
     matched = matched1;
     pasts = λ index group at. pulled-past text pl.first sets is.make is.configured is.publisher.opened pl.steps is.publisher.steps_are is.rings index group at;
-    came = subst (λ (s : Setting). CameAsMade s ringed (past_in pl) read.events) (sym its-setting) read.made;
+    came = subst (λ (s : Setting). CameAsMade s ringed (past_in pl) read.events) (sym its-setting) (alike-came i ours theirs alike ringed (past_in pl) read.events read.made);
     restarts = read.restarts;
     few = few;
   }
 
   member-is : member_in sl r i ≡ its_member p
   member-is =
-      sym (ap (λ (s : Setting). member_at (plain s read.events).members i) its-setting ∙ ap (λ (v : PlainGroup). member_at v.members i) read.value_is)
+      sym (ap (λ (v : PlainGroup). member_at v.members i) read.value_is)
+      ∙ alike-member i ours theirs alike (seated own readers i is.matched.within) read.events
+      ∙ ap (λ (s : Setting). member_at (plain s read.events).members i) (sym its-setting)
 
   whole-held : PlayLaws → MetaLaw → (row : List DataValue) → IsCounted pl → HasSentFew 16385 pl g w → (member_in sl r i).kept.row ≡ Some row → HoldsNamed pl g w (member_in sl r i).kept.number row
   whole-held laws law row counted few e =

@@ -1,12 +1,12 @@
 -- A reader of a device whose read group is renewed with whichever rings.
-use Rattle.std.proofs.Common.{◌≡◌, ◌≢◌, refl, sym, ap, ◌∙◌, subst, arith, ℕ, ◌<◌, Bool, true, false, List, [], ◌∷◌, length, map, inl, inr, Option, Some, None}
+use Rattle.std.proofs.Common.{◌≡◌, ◌≢◌, refl, sym, ap, ◌∙◌, subst, ℕ, ◌<◌, Bool, true, false, List, [], ◌∷◌, length, map, inl, inr, Option, Some, None}
 use Rattle.std.specs.Prelude.{◌⊎◌, ◌==◌, ◌&&◌, not, slice_get, if◌then◌else◌, Result, Ok}
 use Rattle.std.specs.List.{cons_option}
 use Rattle.std.proofs.lemmas.Bool.Decides.{eqb_tells}
-use Rattle.std.proofs.lemmas.List.{length-map}
 use Rattle.std.proofs.lemmas.Option.{slice_get-get_or, slice_get_within}
 use Rattle.group_keys.specs.declared.key_set.KeySet.{KeySet}
 use Rattle.message_guard.specs.declared.keys.TokenKeys.{TokenKeys}
+use Rattle.message_guard.specs.Guards.{Setup}
 use Rattle.message_guard.specs.Modes.{is_secured}
 use Rattle.message_guard.specs.Protection.{keys_in}
 use Rattle.dataset_reader.specs.Kept.{Kept}
@@ -44,19 +44,21 @@ use Rattle.turn_laws.proofs.Sharing.{own-risen}
 use Rattle.turn_laws.proofs.Signed.{SignedLaw, events-contents, held, made-for, matched-secured}
 use Rattle.device.specs.declared.subscriber.Subscriber.{Subscriber}
 use Rattle.device.specs.Sides.{HasListened}
+use Rattle.device_laws.specs.Alike.{ReadsAlike}
 use Rattle.device_laws.specs.Deeds.{deeds_in}
 use Rattle.device_laws.specs.Devices.{HoldsWhole, IsCounted, member_in}
 use Rattle.device_laws.specs.Publishing.{HasOffered, PublisherLife, config_in}
 use Rattle.device_laws.specs.Ringed.{AllKeysAreAmong, AreKeysAmong, ComesRinged, HoldsRinged, IsRingedPair, KeysAreAmong, ReadsRinged, RingsAreAmong, marks_of, ringed_way}
-use Rattle.device_laws.specs.Subscribing.{AreSubscriberSteps, Came, Expired, IsOpenSubscriber, IsSubscriberCall, IsTaken, Only, Reading, Refused, Renewed, SubscriberCall, SubscriberLife, SubscriberStep, Switched, TakenAre, event_by, is_for, keys_by, read_if, reading, readers_on, setting_in, some_if, subscriber_after}
+use Rattle.device_laws.specs.Subscribing.{AreSubscriberSteps, Came, Expired, IsOpenSubscriber, IsSubscriberCall, IsTaken, Only, Reading, Refused, Renewed, SubscriberCall, SubscriberLife, SubscriberStep, Switched, TakenAre, Took, event_by, is_for, keys_by, read_if, reading, readers_on, setting_in, some_if, subscriber_after, takes_at}
 use Rattle.device_laws.specs.Turning.{past_in}
+use Rattle.device_laws.proofs.Alike.{alike-keys, alike-marks, alike-member, seated}
 use Rattle.device_laws.proofs.AnyLength.{held-row}
 use Rattle.device_laws.proofs.Doing.{same-past}
 use Rattle.device_laws.proofs.Heard.{keeps-member, stands-at}
 use Rattle.device_laws.proofs.Reaching.{Tells, reach}
 use Rattle.device_laws.proofs.Offered.{offered-made}
 use Rattle.device_laws.proofs.Owning.{are-deeds}
-use Rattle.device_laws.proofs.Pairs.{answer-told, restarts-on, taken-with}
+use Rattle.device_laws.proofs.Pairs.{answer-told, restarts-on, taken-with, took-told}
 use Rattle.device_laws.proofs.Ringing.{IsRinged, ring-keeps}
 use Rattle.device_laws.proofs.Rows.{has-rows}
 use Rattle.device_laws.proofs.Told.{AreTold, told-so}
@@ -97,6 +99,7 @@ module _ (text : List ℕ) (first : Subscriber) (r : ℕ) (opened : IsOpenSubscr
 
   keys-on : (call : SubscriberCall) (rd : Reading) (list : List Mark) → KeysAreAmong r all call → IsSoFar rd list → IsSoFar (record rd { keys = keys_by call r rd.keys }) list
   keys-on (Came group now datagram answer) rd list among h = h
+  keys-on (Took now datagram answers) rd list among h = h
   keys-on (Expired now) rd list among h = h
   keys-on (Switched group reader on) rd list among h = h
   keys-on (Renewed group keys) rd list among h = keys-if group keys rd list (group == r) (eqb_tells group r) among h
@@ -132,6 +135,11 @@ module _ (text : List ℕ) (first : Subscriber) (r : ℕ) (opened : IsOpenSubscr
       (λ hit opens e.
       let told = answer-told text first r opened low before are now datagram has.0 is new (subst (λ (k : ℕ). HasListened k now datagram has.0 old new is) hit.0 has.1) hit.1 in
       came-made rd group now datagram is told.0 opens told.1 hit.0 taken e)
+  taken-on before are (Took now datagram answers) new has taken =
+      let old = subscriber_after first before in
+      let rd = reading first before r in
+      let t = took-told text first r opened low before are now datagram answers new P has taken in
+      taken-if rd r now datagram (readers_on old r) (takes_at old r datagram) t.tells (λ told opens e. came-made rd r now datagram t.given told.0 opens told.1 refl t.taken e)
   taken-on before are (Expired now) new has taken = tt
   taken-on before are (Switched group reader on) new has taken = stopped-if (reading first before r) ((group == r) && not on) reader
   taken-on before are (Renewed group keys) new has taken = tt
@@ -208,31 +216,46 @@ module _ (ring : RingLaw) (laws : TurnLaws) (text other : List ℕ) (pl : Publis
             (sym (same-past pl.first made.group is.publisher.opened.is.good.sound (slice_get_within config1.group made.group made.part made.there) pl.steps its-told)) made.made;
       }
 
+  secured2 : is_secured (setting_by config1 readers).setup.mode ≡ true
+  secured2 = matched-secured config1 readers i g w k is.publisher.opened.is.good.sound (record { there = is.there; within = is.matched.reads.within; keyed = is.keyed }) is.matched
+
   secured1 : is_secured (setting_in sl r).setup.mode ≡ true
-  secured1 =
-      subst (λ (s : Setting). is_secured s.setup.mode ≡ true) (sym is.set_as)
-      (matched-secured config1 readers i g w k is.publisher.opened.is.good.sound (record { there = is.there; within = is.matched.reads.within; keyed = is.keyed }) is.matched)
+  secured1 = subst (λ (setup : Setup). is_secured setup.mode ≡ true) (sym is.alike.setup) secured2
 
   -- the keys that the read group has at first
   first-keys : AreKeysAmong all (setting_in sl r).setup.keys
   first-keys = record {
     sets = map key_set (keygroup_at config1 k).key;
     among = is.configured;
-    are = ap (λ (s : Setting). s.setup.keys) is.set_as ∙ ap (λ (o : Option ℕ). (setup_by config1 readers o).keys) reads ∙ sym (ring-keys (keygroup_at config1 k).key);
+    are = ap (λ (setup : Setup). setup.keys) is.alike.setup ∙ ap (λ (o : Option ℕ). (setup_by config1 readers o).keys) reads ∙ sym (ring-keys (keygroup_at config1 k).key);
   }
 
   -- the reading of what befell the read group, with the keys of all rings together
 
   abbrev joined : Setting
-  joined = with_keys (setting_in sl r) (map keys_in all)
+  joined = with_keys (setting_by config1 readers) (map keys_in all)
+
+  -- of the subscriber's own setting the reader reads alike
+  abbrev ours : Setting
+  ours = with_keys (setting_in sl r) (map keys_in all)
+
+  alike : ReadsAlike i ours joined
+  alike = alike-keys i (setting_in sl r) (setting_by config1 readers) (map keys_in all) is.alike
 
   read : IsRead (setting_in sl r) secured1 all is.named config1 past1 way1 (reading sl.first sl.steps r).value (marks_of sl.first sl.steps r way1)
   read = (read-at other sl.first r is.subscriber.opened is.read_there secured1 all is.named config1 past1 way1 (HasOffered pl.steps) remade sl.steps is.subscriber.steps_are is.took is.keys first-keys).read
 
+  list-is : marks joined way1 read.events ≡ marks_of sl.first sl.steps r way1
+  list-is = sym (alike-marks i ours joined alike way1 read.events) ∙ read.list_is
+
+  member-is : member_at (plain joined read.events).members i ≡ member_in sl r i
+  member-is =
+      sym (alike-member i ours joined alike (seated config1 readers i is.matched.within) read.events)
+      ∙ ap (λ (group : PlainGroup). member_at group.members i) read.value_is
+
   way-of : IsWayOf joined way1 read.events
   way-of = record {
-    seat = ap (λ (s : Setting). slice_get s.seats i) is.set_as
-        ∙ (let many = length-map readers.reader (seat_in config1) in let low = is.matched.within in slice_get-get_or (map (seat_in config1) readers.reader) i no_seat (omega (arith, many, low)));
+    seat = slice_get-get_or (map (seat_in config1) readers.reader) i no_seat (seated config1 readers i is.matched.within);
     numbers = λ token number own. near-numbers sent token number own;
     restarts = read.restarts;
   }
@@ -249,38 +272,36 @@ module _ (ring : RingLaw) (laws : TurnLaws) (text other : List ℕ) (pl : Publis
 
   made-by : goes_by_numbers way1 ≡ true → (datagram : List ℕ) → IsMade config1 past1 datagram → IsMadeFor making joined way1 datagram
   made-by numbered datagram made =
-      subst (λ (s : Setting). IsMadeFor making (with_keys s (map keys_in all)) way1 datagram) (sym is.set_as)
-      (made-for laws config1 k g w readers i place1 (map keys_in all) is.matched is.keyed is.publisher.opened.is.good.sound at-group deeds1 ringed.turns ringed.known names numbered datagram made)
+      made-for laws config1 k g w readers i place1 (map keys_in all) is.matched is.keyed is.publisher.opened.is.good.sound at-group deeds1 ringed.turns ringed.known names numbered datagram made
 
   member-by : SignedLaw → AgreeLaw → (b : Bool) → goes_by_numbers way1 ≡ b → ChunksNear (marks joined way1 read.events) → MemberIs way1 (marks joined way1 read.events) (member_at (plain joined read.events).members i)
   member-by signed agrees true numbered near =
-      let made = signed-by (setting_in sl r) secured1 all is.named config1 past1 way1 making (made-by numbered) read.events read.made in
-      signed making joined way1 read.events secured1 numbered rises made way-of near
+      let made = signed-by (setting_by config1 readers) secured2 all is.named config1 past1 way1 making (made-by numbered) read.events read.made in
+      signed making joined way1 read.events secured2 numbered rises made way-of near
   -- with none places don't matter
   member-by signed agrees false numbered near =
       agrees joined way1 read.events way-of (subst (λ (b : Bool). NearBy b (arrivals joined way1 read.events)) (sym numbered) tt) near
 
   pub reads-ringed : SignedLaw → AgreeLaw → ReadsRinged pl sl readers r i g w k
   reads-ringed signed agrees = λ near.
-      let own = member-by signed agrees (goes_by_numbers way1) refl (subst ChunksNear (sym read.list_is) near) in
-      subst (λ (group : PlainGroup). MemberIs way1 (marks_of sl.first sl.steps r way1) (member_at group.members i)) read.value_is
-      (subst (λ (list : List Mark). MemberIs way1 list (member_at (plain joined read.events).members i)) read.list_is own)
+      let own = member-by signed agrees (goes_by_numbers way1) refl (subst ChunksNear (sym list-is) near) in
+      subst (MemberIs way1 (marks_of sl.first sl.steps r way1)) member-is
+      (subst (λ (list : List Mark). MemberIs way1 list (member_at (plain joined read.events).members i)) list-is own)
 
   -- ---- what comes is what the writer answered
 
   abbrev AreItems : List GroupDeed → List Mark → Type 0
   AreItems past list = ItemsAre (IsAnswerBy way1.seat.part.numbering way1.seat.meta (answered_by (group_at config1 g) w past)) (arrivals_in list)
 
-  items-with : (setting : Setting) → setting ≡ setting_by config1 readers → (events : List Event) → WereMade config1 past1 events → AreItems (past1 g) (marks (with_keys setting (map keys_in all)) way1 events)
-  items-with setting set_as events made =
-      subst (λ (s : Setting). AreItems (past1 g) (marks (with_keys s (map keys_in all)) way1 events)) (sym set_as)
+  items-with : (events : List Event) → WereMade config1 past1 events → AreItems (past1 g) (marks joined way1 events)
+  items-with events made =
       (events-contents laws config1 k g w readers i place1 (map keys_in all) is.matched is.keyed is.publisher.opened.is.good.sound at-group deeds1 ringed.turns ringed.known names events
-      (came-by (with_keys (setting_by config1 readers) (map keys_in all)) config1 past1 events made)).items
+      (came-by joined config1 past1 events made)).items
 
   pub comes-ringed : ComesRinged pl sl readers r i g w k
   comes-ringed =
       subst (λ (past : List GroupDeed). AreItems past (marks_of sl.first sl.steps r way1)) (same-past pl.first g is.publisher.opened.is.good.sound is.there pl.steps its-told)
-      (subst (AreItems (past1 g)) read.list_is (items-with (setting_in sl r) is.set_as read.events read.made))
+      (subst (AreItems (past1 g)) list-is (items-with read.events read.made))
 
   -- so what it holds is a version's whole row
   pub holds-ringed : SignedLaw → AgreeLaw → IsCounted pl → HoldsRinged pl sl readers r i g w k

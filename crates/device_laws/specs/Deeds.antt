@@ -9,7 +9,7 @@ use Rattle.session_model.specs.Deeds.{Deed, RefreshedBelow, CameTo as CameToMome
 use Rattle.device.specs.declared.looking.Looked.{Looked}
 use Rattle.device.specs.declared.looking.Looked.TheVariants.{Held, Idle, Made}
 use Rattle.device.specs.declared.publisher.Publisher.{Publisher}
-use Rattle.device_laws.specs.Publishing.{PublisherCall, PublisherLife, PublisherStep, SetField, SetWord, SetStatus, Waited, CameTo, HandedOver, Switched, Renewed, Resumed, Refused, publisher_after}
+use Rattle.device_laws.specs.Publishing.{PublisherCall, PublisherLife, PublisherStep, SetField, SetWord, SetStatus, Waited, CameTo, HandedOver, Switched, Renewed, Resumed, Aside, publisher_after}
 use Rattle.device_laws.specs.Turning.{is_rekeyed, turn_at}
 
 -- with the turn of a group that was looked at, if it had one
@@ -44,7 +44,7 @@ deeds_by config HandedOver old deeds = deeds
 deeds_by config (Switched group writer on) old deeds = cons_if on (RefreshedBelow (Writer group writer)) deeds
 deeds_by config (Renewed keygroup sets) old deeds = RenewedKeys keygroup sets ∷ deeds
 deeds_by config (Resumed keygroup now used sets) old deeds = deeds
-deeds_by config Refused old deeds = deeds
+deeds_by config Aside old deeds = deeds
 
 abbrev pub deeds_of : Publisher → List PublisherStep → List Deed
 deeds_of first [] = []

@@ -19,6 +19,7 @@ use Rattle.session_laws.specs.Pasts.{answered_by, settings_at}
 use Rattle.session_laws.specs.Plays.{Play}
 use Rattle.device.specs.Readings.{IsReaderAt}
 use Rattle.device.specs.declared.listening.Listening.{Listening}
+use Rattle.device_laws.specs.Alike.{ReadsAlike}
 use Rattle.device_laws.specs.Publishing.{AreOwnRings, HasOffered, IsPublisherLife, PublisherLife, config_in, publisher_in}
 use Rattle.device_laws.specs.Histories.{history_in, row_at, sampled_at}
 use Rattle.device_laws.specs.Subscribing.{AreOwnKeys, IsSubscriberLife, SubscriberLife, TakenAre, events_in, reading_in, setting_in, subscriber_in}
@@ -88,15 +89,15 @@ MemoryHolds life r i so =
 
 -- ---- the two
 
--- The publisher of one configuration, and the subscriber of another. Its read group with index r is set as the configuration of the publisher would set this part:
--- of that the reader with index i is matched to the writer with index w of the group with index g. Each datagram that the read group took had waited at the
--- publisher; of what it refused nothing is asked. Rings of either have the keys of the configuration.
+-- The publisher of one configuration, and the subscriber of another. Of its read group with index r the reader with index i reads as it would of this part in the
+-- publisher's configuration. There that reader is matched to the writer with index w of the group with index g. Each datagram that the read group took had waited at
+-- the publisher; of what it refused nothing is asked. Rings of either have the keys of the configuration.
 pub record ArePaired (text other : List ℕ) (pub_life : PublisherLife) (sub_life : SubscriberLife) (readers : ReadGroupPart) (r i g w : ℕ) : Type 0 where
   pub publisher : IsPublisherLife text pub_life
   pub subscriber : IsSubscriberLife other sub_life
   pub there : g < length (config_in pub_life).group
   pub read_there : r < length sub_life.first.config.readgroup
-  pub set_as : setting_in sub_life r ≡ setting_by (config_in pub_life) readers
+  pub alike : ReadsAlike i (setting_in sub_life r) (setting_by (config_in pub_life) readers)
   pub matched : IsMatchedTo (config_in pub_life) readers i (group_at (config_in pub_life) g) w
   pub rings : AreOwnRings (config_in pub_life) pub_life.steps
   pub keys : AreOwnKeys sub_life.steps r (setting_in sub_life r).setup.keys

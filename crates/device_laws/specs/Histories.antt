@@ -8,7 +8,7 @@ use Rattle.ps_config.specs.declared.parts.Config.{Config}
 use Rattle.writer_group.specs.Turns.{no_sample}
 use Rattle.writer_group.specs.declared.sampled.Sampled.{Sampled}
 use Rattle.device.specs.declared.publisher.Publisher.{Publisher}
-use Rattle.device_laws.specs.Publishing.{PublisherCall, PublisherLife, PublisherStep, SetField, SetWord, SetStatus, Waited, CameTo, HandedOver, Switched, Renewed, Resumed, Refused}
+use Rattle.device_laws.specs.Publishing.{PublisherCall, PublisherLife, PublisherStep, SetField, SetWord, SetStatus, Waited, CameTo, HandedOver, Switched, Renewed, Resumed, Aside}
 
 -- what the publisher has for the data set with this index
 abbrev pub sampled_at : Publisher → ℕ → Sampled
@@ -29,7 +29,7 @@ set_by HandedOver = None
 set_by (Switched group writer on) = None
 set_by (Renewed keygroup sets) = None
 set_by (Resumed keygroup now used sets) = None
-set_by Refused = None
+set_by Aside = None
 
 -- it sets a field of this one
 abbrev pub sets : ℕ → PublisherCall → Bool

@@ -6,6 +6,7 @@ use Rattle.ps_config.specs.Rings.{key_set}
 use Rattle.reader_group.specs.Settings.{keygroup_at, setting_by}
 use Rattle.writer_group.specs.Parts.{group_at}
 use Rattle.group_laws.specs.Matching.{IsMatchedTo}
+use Rattle.device_laws.specs.Alike.{ReadsAlike}
 use Rattle.device_laws.specs.Publishing.{HasOffered, IsPublisherLife, PublisherLife, config_in}
 use Rattle.device_laws.specs.Pulled.{IsKnownBy, MakeRing, RingsAreKnown}
 use Rattle.device_laws.specs.Subscribing.{AreOwnKeys, IsSubscriberLife, SubscriberLife, TakenAre, setting_in}
@@ -16,7 +17,7 @@ pub record IsPlainPair (text other : List ℕ) (pub_life : PublisherLife) (sub_l
   pub subscriber : IsSubscriberLife other sub_life
   pub there : g < length (config_in pub_life).group
   pub read_there : r < length sub_life.first.config.readgroup
-  pub set_as : setting_in sub_life r ≡ setting_by (config_in pub_life) readers
+  pub alike : ReadsAlike i (setting_in sub_life r) (setting_by (config_in pub_life) readers)
   pub matched : IsMatchedTo (config_in pub_life) readers i (group_at (config_in pub_life) g) w
   pub unkeyed : readers.keygroup ≡ None
   pub took : TakenAre sub_life.steps r (HasOffered pub_life.steps)

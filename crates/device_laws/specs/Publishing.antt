@@ -38,8 +38,8 @@ pub data PublisherCall : Type 0 where
   -- a key group was renewed with a ring of these key sets, or goes on after so many numbers of them
   Renewed : (keygroup : ℕ) (sets : List KeySet) → PublisherCall
   Resumed : (keygroup now used : ℕ) (sets : List KeySet) → PublisherCall
-  -- a call was refused
-  Refused : PublisherCall
+  -- nothing of what is sent changed: a call was refused, or something was saved, or told to be in store
+  Aside : PublisherCall
 
 -- What the groups did that were looked at. Where datagrams wait, their group is the last of them.
 abbrev pub did_as : (now : ℕ) (next : Next) (senders : List SenderState) (sides : List Side) (new : Publisher)
@@ -52,16 +52,17 @@ did_as now Spent senders sides new comes = comes.did
 pub record ComesBy (now : ℕ) (next : Next) (did : List Looked) (old new : Publisher) : Type 0 where
   pub none_waited : old.made ≤ old.handed
   pub came : HasCome now next old new
+  pub store : new.store ≡ old.store
   pub did_is : did ≡ did_as now next (turned_to now old.senders.items) came.sides new came.came
 
 -- a datagram waits
 abbrev pub Waits : Publisher → Type 0
 Waits publisher = publisher.handed < publisher.made
 
--- nothing is set, and nothing else changed
+-- nothing is set, and nothing else changed but for what is in store
 pub record IsUnchanged (old new : Publisher) : Type 0 where
   pub rows : new.rows.items ≡ old.rows.items
-  pub rest : new ≡ record old { rows = new.rows }
+  pub rest : new ≡ record old { rows = new.rows; store = new.store }
 
 -- what the call makes of the publisher: just what its clauses say
 abbrev pub IsPublisherCall : PublisherCall → Publisher → Publisher → Type 0
@@ -74,7 +75,7 @@ IsPublisherCall HandedOver old new = Waits old × (new ≡ record old { handed =
 IsPublisherCall (Switched group writer on) old new = HasWriterSwitched group writer on old new
 IsPublisherCall (Renewed keygroup sets) old new = HasRenewed keygroup sets old new
 IsPublisherCall (Resumed keygroup now used sets) old new = IsBehind keygroup now used sets old new
-IsPublisherCall Refused old new = IsUnchanged old new
+IsPublisherCall Aside old new = IsUnchanged old new
 
 -- ---- a life
 
@@ -145,7 +146,7 @@ moments_by HandedOver = 0
 moments_by (Switched group writer on) = 0
 moments_by (Renewed keygroup sets) = 0
 moments_by (Resumed keygroup now used sets) = 0
-moments_by Refused = 0
+moments_by Aside = 0
 
 -- how often it came to a moment while no datagram waited
 abbrev pub moments_in : List PublisherStep → ℕ
@@ -168,7 +169,7 @@ KeepsRing config HandedOver = ⊤
 KeepsRing config (Switched group writer on) = ⊤
 KeepsRing config (Renewed keygroup sets) = IsOwnRing config keygroup sets
 KeepsRing config (Resumed keygroup now used sets) = IsOwnRing config keygroup sets
-KeepsRing config Refused = ⊤
+KeepsRing config Aside = ⊤
 
 -- so has each ring that renewed a key group, or that it went on with
 abbrev pub AreOwnRings : Config → List PublisherStep → Type 0

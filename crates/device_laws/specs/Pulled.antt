@@ -12,6 +12,7 @@ use Rattle.ps_config.specs.Rings.{key_set}
 use Rattle.reader_group.specs.Settings.{keygroup_at, setting_by}
 use Rattle.writer_group.specs.Parts.{group_at}
 use Rattle.group_laws.specs.Matching.{IsMatchedTo}
+use Rattle.device_laws.specs.Alike.{ReadsAlike}
 use Rattle.device_laws.specs.Publishing.{HasOffered, IsPublisherLife, PublisherCall, PublisherLife, PublisherStep, Renewed, Resumed, config_in}
 use Rattle.device_laws.specs.Ringed.{FitsPolicy}
 use Rattle.device_laws.specs.Subscribing as reads
@@ -87,7 +88,7 @@ pub record IsPulledPair (text other : List ℕ) (pub_life : PublisherLife) (sub_
   pub subscriber : IsSubscriberLife other sub_life
   pub there : g < length (config_in pub_life).group
   pub read_there : r < length sub_life.first.config.readgroup
-  pub set_as : setting_in sub_life r ≡ setting_by (config_in pub_life) readers
+  pub alike : ReadsAlike i (setting_in sub_life r) (setting_by (config_in pub_life) readers)
   pub matched : IsMatchedTo (config_in pub_life) readers i (group_at (config_in pub_life) g) w
   pub keyed : (group_at (config_in pub_life) g).keygroup ≡ Some k
   pub took : TakenAre sub_life.steps r (HasOffered pub_life.steps)

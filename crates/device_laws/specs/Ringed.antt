@@ -21,6 +21,7 @@ use Rattle.session_laws.specs.Plays.{IsAnswerBy, ItemsAre}
 use Rattle.turn_laws.specs.Lives.{TokensNameKeys, marks_on}
 use Rattle.turn_laws.specs.Sent.{place_near, sends_in}
 use Rattle.device.specs.declared.subscriber.Subscriber.{Subscriber}
+use Rattle.device_laws.specs.Alike.{ReadsAlike}
 use Rattle.device_laws.specs.Deeds.{AreUnresumed, deeds_in}
 use Rattle.device_laws.specs.Devices.{HoldsWhole, MemoryHolds, member_in}
 use Rattle.device_laws.specs.Publishing.{HasOffered, IsPublisherLife, PublisherCall, PublisherLife, PublisherStep, Renewed, config_in}
@@ -69,7 +70,7 @@ pub record IsRingedPair (text other : List ℕ) (pub_life : PublisherLife) (sub_
   pub subscriber : IsSubscriberLife other sub_life
   pub there : g < length (config_in pub_life).group
   pub read_there : r < length sub_life.first.config.readgroup
-  pub set_as : setting_in sub_life r ≡ setting_by (config_in pub_life) readers
+  pub alike : ReadsAlike i (setting_in sub_life r) (setting_by (config_in pub_life) readers)
   pub matched : IsMatchedTo (config_in pub_life) readers i (group_at (config_in pub_life) g) w
   pub keyed : (group_at (config_in pub_life) g).keygroup ≡ Some k
   pub took : TakenAre sub_life.steps r (HasOffered pub_life.steps)

@@ -7,7 +7,7 @@ use Rattle.writer_group.specs.Standing.{datagrams_in}
 use Rattle.device.specs.declared.asked.Next.TheVariants.{Datagram}
 use Rattle.device.specs.declared.publisher.Publisher.{Publisher}
 use Rattle.device.specs.declared.subscriber.Subscriber.{Subscriber}
-use Rattle.device.specs.Coming.{ComesTo}
+use Rattle.device.specs.Calls.{ComesStored}
 use Rattle.device.specs.Sides.{HasListened, HasSet, IsPublisher, IsSubscriber}
 use Rattle.device_laws.specs.declared.run.Pair.{Pair}
 use Rattle.device_laws.specs.Devices.{ArePairedByOne, HasSentFew, IsCounted}
@@ -28,7 +28,7 @@ pub record IsSmallRun (text : List ℕ) (r : ℕ) : Type 0 where
   pub set_is : IsPublisher set
   pub now : ℕ
   pub came : Publisher
-  pub comes : ComesTo now Datagram set came
+  pub comes : ComesStored now Datagram set came
   pub came_is : IsPublisher came
   pub waits : came.handed < came.made
   pub reads : Subscriber

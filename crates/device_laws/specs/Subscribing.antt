@@ -1,6 +1,6 @@
 -- The life of a subscriber: its calls from its opening on, each with where it left the subscriber; and what befell each of its read groups. Lists have the latest
 -- first.
-use Rattle.std.specs.Prelude.{◌≡◌, ⊤, ℕ, List, [], ◌∷◌, Bool, true, false, not, ◌&&◌, ◌==◌, Option, Some, None, Result, Ok, if◌then◌else◌, slice_get}
+use Rattle.std.specs.Prelude.{◌≡◌, ⊤, ℕ, List, [], ◌∷◌, Bool, true, false, not, ◌&&◌, ◌==◌, Option, Some, None, Result, Ok, Err, if◌then◌else◌, length, slice_get, slice_index_or}
 use Rattle.std.specs.List.{cons_option}
 use Rattle.std.specs.Option.{option_map_or}
 use Rattle.pubsub_model.specs.declared.reading.Why.TheVariants.{Restarted}
@@ -15,6 +15,7 @@ use Rattle.reader_group.specs.declared.refusal.Taken.{Taken}
 use Rattle.device.specs.declared.subscriber.Subscriber.{Subscriber}
 use Rattle.device.specs.Readings.{HasKeysRenewed, HasNumber, HasReaderSwitched, HaveExpired}
 use Rattle.device.specs.Sides.{AreOpeningListenings, HasListened, IsSubscriber}
+use Rattle.device.specs.Takings.{HaveTaken}
 
 -- ---- calls
 
@@ -22,6 +23,8 @@ use Rattle.device.specs.Sides.{AreOpeningListenings, HasListened, IsSubscriber}
 pub data SubscriberCall : Type 0 where
   -- a datagram came to a read group, which answered this
   Came : (group now : ℕ) (datagram : List ℕ) (answer : Result Taken Refusal) → SubscriberCall
+  -- a datagram came to all read groups, which answered these, by their indexes
+  Took : (now : ℕ) (datagram : List ℕ) (answers : List (Option (Result Taken Refusal))) → SubscriberCall
   -- time went on
   Expired : (now : ℕ) → SubscriberCall
   -- a reader was switched on or off
@@ -36,6 +39,7 @@ pub data SubscriberCall : Type 0 where
 -- what the call makes of the subscriber: just what its clauses say
 abbrev pub IsSubscriberCall : SubscriberCall → Subscriber → Subscriber → Type 0
 IsSubscriberCall (Came group now datagram answer) old new = (left : List ℕ) × HasListened group now datagram left old new answer
+IsSubscriberCall (Took now datagram answers) old new = HaveTaken (length old.groups.items) now datagram answers old new
 IsSubscriberCall (Expired now) old new = HaveExpired now old new
 IsSubscriberCall (Switched group reader on) old new = HasReaderSwitched group reader on old new
 IsSubscriberCall (Renewed group keys) old new = HasKeysRenewed group keys old new
@@ -106,6 +110,7 @@ is_for subscriber group r datagram = (group == r) && takes_at subscriber r datag
 -- doesn't take is nothing to it.
 abbrev pub event_by : SubscriberCall → Subscriber → ℕ → Option Event
 event_by (Came group now datagram answer) old r = some_if (is_for old group r datagram) (befalls.Got now (readers_on old r) datagram)
+event_by (Took now datagram answers) old r = some_if (takes_at old r datagram) (befalls.Got now (readers_on old r) datagram)
 event_by (Expired now) old r = Some (befalls.Expired now)
 event_by (Switched group reader on) old r = some_if ((group == r) && not on) (befalls.Stopped reader Restarted)
 event_by (Renewed group keys) old r = None
@@ -135,6 +140,7 @@ read_if setting reading (Some event) = record reading { value = step (with_keys 
 -- the keys of the read group with index r after the call
 abbrev pub keys_by : SubscriberCall → ℕ → List TokenKeys → List TokenKeys
 keys_by (Came group now datagram answer) r keys = keys
+keys_by (Took now datagram answers) r keys = keys
 keys_by (Expired now) r keys = keys
 keys_by (Switched group reader on) r keys = keys
 keys_by (Renewed group new) r keys = if group == r then new else keys
@@ -158,6 +164,7 @@ reading_in life r = reading life.first life.steps r
 -- a ring that the call gives the read group with index r has these keys
 abbrev pub KeepsKeys : SubscriberCall → ℕ → List TokenKeys → Type 0
 KeepsKeys (Came group now datagram answer) r keys = ⊤
+KeepsKeys (Took now datagram answers) r keys = ⊤
 KeepsKeys (Expired now) r keys = ⊤
 KeepsKeys (Switched group reader on) r keys = ⊤
 KeepsKeys (Renewed group new) r keys = group ≡ r → new ≡ keys
@@ -171,9 +178,16 @@ AreOwnKeys (step ∷ before) r keys = KeepsKeys step.call r keys × AreOwnKeys b
 
 -- ---- what it took
 
+-- where the answer is that the datagram was taken
+abbrev pub IfTaken : Option (Result Taken Refusal) → Type 0 → Type 0
+IfTaken None T = ⊤
+IfTaken (Some (Ok taken)) T = T
+IfTaken (Some (Err refusal)) T = ⊤
+
 -- where the call brought the read group with index r a datagram that it took, the datagram is such
 abbrev pub IsTaken : SubscriberCall → ℕ → (List ℕ → Type 0) → Type 0
 IsTaken (Came group now datagram (Ok taken)) r P = group ≡ r → P datagram
+IsTaken (Took now datagram answers) r P = IfTaken (slice_index_or answers r None) (P datagram)
 IsTaken call r P = ⊤
 
 -- each datagram that the read group with index r took is such

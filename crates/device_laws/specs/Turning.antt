@@ -13,7 +13,7 @@ use Rattle.device.specs.declared.publisher.Publisher.{Publisher}
 use Rattle.device.specs.Coming as coming
 use Rattle.device.specs.Coming.{refreshed_first}
 use Rattle.device.specs.Sides.{sender_for}
-use Rattle.device_laws.specs.Publishing.{PublisherCall, PublisherLife, PublisherStep, SetField, SetWord, SetStatus, Waited, CameTo, HandedOver, Switched, Renewed, Resumed, Refused, publisher_after}
+use Rattle.device_laws.specs.Publishing.{PublisherCall, PublisherLife, PublisherStep, SetField, SetWord, SetStatus, Waited, CameTo, HandedOver, Switched, Renewed, Resumed, Aside, publisher_after}
 
 -- ---- refreshes
 
@@ -85,7 +85,7 @@ past_by config (Switched group writer on) old new g past = if on && (group == g)
 past_by config (Renewed keygroup sets) old new g past = past
 past_by config (Resumed keygroup now used sets) old new g past =
     all_refreshed_if (is_secured_with config keygroup g && not (token_at new keygroup == token_at old keygroup)) config g past
-past_by config Refused old new g past = past
+past_by config Aside old new g past = past
 
 -- what the group with index g lived through
 abbrev pub past_of : Publisher → List PublisherStep → ℕ → List GroupDeed

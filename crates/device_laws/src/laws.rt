@@ -14,13 +14,14 @@ ghost use Rattle.writer_group.specs.Parts.{group_at};
 ghost use Rattle.device.specs.declared.asked.Next.{Next};
 ghost use Rattle.device.specs.declared.looking.Looked.{Looked};
 ghost use Rattle.device.specs.declared.publisher.Publisher.{Publisher};
-ghost use Rattle.device.specs.Coming.{ComesTo};
+ghost use Rattle.device.specs.Calls.{ComesStored};
 ghost use Rattle.device.specs.Resuming.{IsBehindConfigured};
+ghost use Rattle.device.specs.Storing.{HasSaved, HasStored};
 ghost use Rattle.session_laws.specs.Headline.{answered_turn};
 ghost use Rattle.session_laws.specs.Pasts.{IsMade, IsPast, settings_at};
 ghost use Rattle.session_laws.specs.Plays.{ComesFromWriter, its_marks, its_way};
 ghost use Rattle.device_laws.specs.Devices.{ArePaired, ArePairedByOne, HasItsHistory, HasSentFew, HoldsNamed, IsCounted, IsOfHistory, KeepsMember, MemoryHolds, PublishesRow, ReadsPlainly, StandsAsRead, log_in, member_in, play_of, set_in, writer_deeds_in};
-ghost use Rattle.device_laws.specs.Publishing.{AreOwnRings, CameTo, HasOffered, IsOwnRing, IsPublisherCall, IsPublisherLife, PublisherLife, Refused, Resumed, Waited, config_in, moments_in};
+ghost use Rattle.device_laws.specs.Publishing.{AreOwnRings, Aside, CameTo, HasOffered, IsOwnRing, IsPublisherCall, IsPublisherLife, PublisherLife, Resumed, Waited, config_in, moments_in};
 ghost use Rattle.device_laws.specs.Subscribing.{AreOwnKeys, IsSubscriberLife, SubscriberLife, events_in, reading_in, setting_in};
 ghost use Rattle.device_laws.specs.Turning.{past_in};
 
@@ -28,16 +29,19 @@ use group_laws::{a_matched_reader_reads_its_writer, a_ring_makes_senders_of_its_
 use session_laws::a_matched_reader_holds_what_was_sent;
 
 /// What the clauses of a publisher's calls say makes each of them one of a life. A call that comes to a moment waits, or its
-/// groups do something (`came`). One that sets nothing (`unset`), or changes nothing (`refused`), is a refused one. `resume` goes
-/// on with a ring of the configuration's own key sets (`resumed`). The clauses of the other calls name the life's records as they
-/// stand.
+/// groups do something (`came`). One that sets nothing (`unset`), changes nothing (`refused`), saves (`saved`), or tells that what
+/// was saved is in store (`stored`) stands aside. `resume` goes on with a ring of the configuration's own key sets (`resumed`). The
+/// clauses of the other calls name the life's records as they stand, but for `begin_at` and `restore`, which are none of a life.
 pub fn each_call_is_a_step_of_a_life()
-    ensures came { (now : ℕ) (next : Next) (old new : Publisher) → ComesTo now next old new
+    ensures came { (now : ℕ) (next : Next) (old new : Publisher) → ComesStored now next old new
         → IsPublisherCall (Waited now) old new
         ⊎ ((did : List Looked) × IsPublisherCall (CameTo now next did) old new) }
     ensures unset { (old new : Publisher) → new.rows.items ≡ old.rows.items
-        → new ≡ record old { rows = new.rows } → IsPublisherCall Refused old new }
-    ensures refused { (old new : Publisher) → new ≡ old → IsPublisherCall Refused old new }
+        → new ≡ record old { rows = new.rows } → IsPublisherCall Aside old new }
+    ensures refused { (old new : Publisher) → new ≡ old → IsPublisherCall Aside old new }
+    ensures saved { (ahead : ℕ) (bytes : List ℕ) (old new : Publisher)
+        → HasSaved ahead old new bytes → IsPublisherCall Aside old new }
+    ensures stored { (old new : Publisher) → HasStored old new → IsPublisherCall Aside old new }
     ensures resumed { (keygroup now used : ℕ) (old new : Publisher)
         → IsBehindConfigured keygroup now used old new
         → (sets : List KeySet) × IsPublisherCall (Resumed keygroup now used sets) old new

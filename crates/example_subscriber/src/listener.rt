@@ -6,15 +6,18 @@ ghost use Rattle.reader_group.specs.Settings.{group_at, seat_in, setting_of};
 ghost use Rattle.writer_group.specs.Standing.{IsGood};
 ghost use Rattle.example_subscriber.specs.Listeners.{IsListener, readers_of};
 
-use crate::causes::{Counts, cause_of};
-use crate::live::{DRAWING, put_begin, put_clear, put_end};
+use crate::counts::Counts;
+use crate::heard::Heard;
+use crate::live::{DRAWING, put_drawing};
 use crate::news::{Head, Standing, Told};
-use crate::untaken::put_refusal;
+use crate::refusing::{put_refusal, refusal_cause};
+use crate::text::{Piece, fill};
+use crate::untaken::Glance;
 use dataset_meta::Meta;
 use example_parts::Fault;
 use group_keys::Ring;
 use ps_config::{Config, MOST_READERS, ReadGroupPart, ReaderPart};
-use ps_report::{put, put_feed, put_named};
+use ps_report::put_feed;
 use reader_group::{ReaderGroup, Refusal, Taken};
 use std::alloc::Global;
 use std::io;
@@ -28,12 +31,19 @@ pub struct Listener<'c> {
     on: Vec<bool>,
     told: Vec<Told>,
     counts: Counts,
-    /// Why the last datagram that was refused was, and whether that is still to be told.
+    /// The last datagram, until it was looked at; and the last that was refused.
+    heard: Heard,
+    refused: Heard,
+    /// Why the last datagram that was refused was.
     cause: &'static str,
-    is_untold: bool,
+    /// Whose message came first of those that no reader asks for.
+    other: Option<u16>,
+    is_refusal_untold: bool,
+    is_other_untold: bool,
     view: View,
-    /// Lines before they are printed.
+    /// Lines before they are printed, and as they are drawn.
     lines: Vec<u8>,
+    drawing: Vec<u8>,
 }
 
 /// How readers are shown: a line for each thing that is new, or the same lines again and again.
@@ -59,10 +69,15 @@ impl<'c> Listener<'c> {
             on: vec![in alloc; true; count]?,
             told: vec![in alloc; Told::NOTHING; count]?,
             counts: Counts::new(alloc),
+            heard: Heard::NOTHING,
+            refused: Heard::NOTHING,
             cause: "",
-            is_untold: false,
+            other: None,
+            is_refusal_untold: false,
+            is_other_untold: false,
             view,
             lines: Vec::new(alloc),
+            drawing: Vec::new(alloc),
         })
     }
 
@@ -79,6 +94,7 @@ impl<'c> Listener<'c> {
         requires { IsListener self.old }
         ensures { IsListener self.new }
     {
+        self.heard = Heard::of(bytes);
         self.group.datagram(self.config, now, &self.on, bytes)
     }
 
@@ -87,22 +103,44 @@ impl<'c> Listener<'c> {
         requires { IsListener self.old }
         ensures { IsListener self.new }
     {
-        if let Err(refusal) = answer {
-            let cause = cause_of(refusal);
-            if self.cause != cause {
-                self.cause = cause;
-                self.is_untold = true;
+        match answer {
+            Ok(taken) => {
+                self.counts.take(taken);
+                if taken.matched == 0 && self.other.is_none() {
+                    self.other = self.heard.writer;
+                    self.is_other_untold = self.other.is_some();
+                }
+                Ok(())
             }
+            Err(refusal) => self.count_refusal(refusal),
         }
-        self.counts.note(answer)
     }
 
-    /// Goes on with these keys, and says so.
-    pub fn renew<R: Print>(&mut self, rt: &R, now: u64, ring: Ring) -> Result<(), Fault>
+    fn count_refusal(&mut self, refusal: &Refusal) -> Result<(), Fault>
+        requires { IsListener self.old }
+        ensures { IsListener self.new }
+    {
+        let security = first_group(self.config).security;
+        let word = refusal_cause(refusal, &self.heard, security).word;
+        self.refused = self.heard;
+        self.heard = Heard::NOTHING;
+        if self.cause != word {
+            self.cause = word;
+            self.is_refusal_untold = true;
+        }
+        self.counts.refuse(word)
+    }
+
+    /// Goes on with these keys.
+    pub fn renew(&mut self, ring: Ring)
         requires { IsListener self.old }
         ensures { IsListener self.new }
     {
         self.group.renew(ring);
+    }
+
+    /// Says that it goes on with other keys.
+    pub fn tell_keys<R: Print>(&self, rt: &R, now: u64) -> Result<(), Fault> {
         match self.view {
             View::News => println!(rt; "{now}: goes on with new keys").map_err(unwritten),
             View::Live { .. } => Ok(()),
@@ -110,11 +148,11 @@ impl<'c> Listener<'c> {
     }
 
     /// A datagram was too long, or a receive failed.
-    pub fn lose(&mut self)
+    pub fn fail(&mut self)
         requires { IsListener self.old }
         ensures { IsListener self.new }
     {
-        self.counts.lose();
+        self.counts.fail();
     }
 
     /// Shows the readers.
@@ -125,62 +163,115 @@ impl<'c> Listener<'c> {
         self.lines.clear();
         match self.view {
             View::News => {
-                self.put_cause(now)?;
+                self.put_new_refusal(now)?;
+                self.put_new_other(now)?;
                 self.look_all(now, false)?;
+                print_all(rt, &self.lines)
             }
-            View::Live { next, drawn } => self.put_view(now, next, drawn)?,
+            View::Live { next, .. } if now < next => self.look_all(now, false),
+            View::Live { drawn, .. } => {
+                self.put_view(now)?;
+                self.draw(rt, now, drawn)
+            }
         }
-        print_all(rt, &self.lines)
     }
 
     /// A line where a datagram was refused for another cause than the last before it.
-    fn put_cause(&mut self, now: u64) -> Result<(), Fault>
+    fn put_new_refusal(&mut self, now: u64) -> Result<(), Fault>
         requires { IsListener self.old }
         ensures { IsListener self.new }
     {
-        if !self.is_untold {
+        if !self.is_refusal_untold {
             return Ok(());
         }
-        self.is_untold = false;
-        put_named(&mut self.lines, b"", now)?;
-        put(&mut self.lines, b": refuses ")?;
-        self.put_last()?;
+        self.is_refusal_untold = false;
+        self.put_last("#: refuses ", now)
+    }
+
+    /// A line where the first message came that no reader asks for.
+    fn put_new_other(&mut self, now: u64) -> Result<(), Fault>
+        requires { IsListener self.old }
+        ensures { IsListener self.new }
+    {
+        if !self.is_other_untold {
+            return Ok(());
+        }
+        self.is_other_untold = false;
+        self.put_other("#: ", now)
+    }
+
+    /// Why the last datagram that was refused was, and whose it was, if there was one, after this pattern of the moment.
+    fn put_last(&mut self, pattern: &str, now: u64) -> Result<(), Fault>
+        requires { IsListener self.old }
+        ensures { IsListener self.new }
+    {
+        let Some(last) = &self.group.refused().last else {
+            return Ok(());
+        };
+        let part = first_group(self.config);
+        fill(&mut self.lines, pattern, &[Piece::Number(now)])?;
+        put_refusal(&mut self.lines, last, &self.refused, part)?;
         Ok(put_feed(&mut self.lines)?)
     }
 
-    /// Why the last datagram that was refused was, and whose it was, if there was one.
-    fn put_last(&mut self) -> Result<(), Fault>
+    /// Whose message came first that no reader asks for, if there was one.
+    fn put_other(&mut self, pattern: &str, now: u64) -> Result<(), Fault>
         requires { IsListener self.old }
         ensures { IsListener self.new }
     {
-        match &self.group.refused().last {
-            Some(last) => put_refusal(&mut self.lines, last),
-            None => Ok(()),
-        }
+        let Some(writer) = self.other else {
+            return Ok(());
+        };
+        let writer = u64::from(writer);
+        fill(&mut self.lines, pattern, &[Piece::Number(now)])?;
+        let pattern = "hears OtherWriter, writer #\n";
+        fill(&mut self.lines, pattern, &[Piece::Number(writer)])
     }
 
-    /// Lines in place of those that were drawn, where their moment has come.
-    fn put_view(&mut self, now: u64, next: u64, drawn: u64) -> Result<(), Fault>
+    /// All lines of the live view.
+    fn put_view(&mut self, now: u64) -> Result<(), Fault>
         requires { IsListener self.old }
         ensures { IsListener self.new }
     {
-        if now < next {
-            return self.look_all(now, false);
+        self.look_all(now, true)?;
+        self.put_counts()?;
+        self.put_last(" last refused ", now)?;
+        self.put_other(" ", now)
+    }
+
+    fn put_counts(&mut self) -> Result<(), Fault>
+        requires { IsListener self.old }
+        ensures { IsListener self.new }
+    {
+        let lost = self.lost();
+        self.counts.put(&mut self.lines, lost)?;
+        Ok(put_feed(&mut self.lines)?)
+    }
+
+    /// How many messages all readers lost.
+    fn lost(&self) -> u64
+        requires { IsListener self.now }
+    {
+        let mut lost = 0u64;
+        let count = self.group.count();
+        for index in 0..count {
+            lost = lost.saturating_add(self.group.notice(index).lost);
         }
-        put_begin(&mut self.lines, drawn)?;
+        lost
+    }
+
+    /// Draws the lines in the place of so many that were drawn.
+    fn draw<R: Print>(&mut self, rt: &R, now: u64, drawn: u64) -> Result<(), Fault>
+        requires { IsListener self.old }
+        ensures { IsListener self.new }
+    {
+        self.drawing.clear();
+        let drawn = put_drawing(&mut self.drawing, &self.lines, drawn)?;
         self.view = View::Live {
             next: now.saturating_add(DRAWING),
-            drawn: self.told.len() as u64 + 1,
+            drawn,
         };
-        self.look_all(now, true)?;
-        put_clear(&mut self.lines)?;
-        self.counts.put(&mut self.lines)?;
-        if !self.cause.is_empty() {
-            put(&mut self.lines, b", last ")?;
-            self.put_last()?;
-        }
-        put_feed(&mut self.lines)?;
-        put_end(&mut self.lines)
+        print_all(rt, &self.drawing)
     }
 
     /// Looks at each reader.
@@ -192,10 +283,11 @@ impl<'c> Listener<'c> {
         for index in 0..count {
             self.look(now, index, draws)?;
         }
+        self.heard = Heard::NOTHING;
         Ok(())
     }
 
-    /// Puts what is new of a reader, or its line of the live view where it is drawn.
+    /// Puts what is new of a reader, or its lines of the live view where it is drawn.
     fn look(&mut self, now: u64, index: u8, draws: bool) -> Result<(), Fault>
         requires listener { IsListener self.old }
         requires index { index < readers_of self.old }
@@ -203,47 +295,66 @@ impl<'c> Listener<'c> {
         ensures count { readers_of self.new ≡ readers_of self.old }
     {
         let part = part_of(self.config, usize::from(index));
-        let meta = meta_of(self.config, part);
-        let name = part.name.as_bytes();
-        let reader = self.group.reader(index);
-        let notice = self.group.notice(index);
+        let glance = Glance {
+            part,
+            meta: meta_of(self.config, part),
+            reader: self.group.reader(index),
+            notice: &self.group.notice(index),
+            heard: &self.heard,
+        };
         let standing = Standing {
             is_ready: self.group.is_ready(index),
             is_late: self.group.is_late(index),
             is_fresh: self.group.is_fresh(index, now, bound_of(part)),
         };
         let told = &mut self.told[usize::from(index)];
+        let name = part.name.as_str();
+        let head = Head { moment: now, name };
         match self.view {
-            View::News => {
-                let head = Head { moment: now, name };
-                let line = &mut self.lines;
-                told.put_news(line, &head, meta, reader, &notice, standing.is_fresh)
-            }
-            View::Live { .. } => {
-                told.untaken.look(&notice, reader.passed());
-                told.mark.note(now, reader, &notice);
-                if !draws {
-                    return Ok(());
-                }
-                put_clear(&mut self.lines)?;
-                let line = &mut self.lines;
-                told.put_line(line, now, name, meta, reader, standing)?;
-                Ok(put_feed(line)?)
-            }
+            View::News => told.put_news(&mut self.lines, &head, &glance, standing.is_fresh),
+            View::Live { .. } => told.put_live(&mut self.lines, now, &glance, standing, draws),
         }
     }
 
-    /// Prints all counts.
+    /// Prints what became of each reader's messages, and then of datagrams.
     pub fn tell_counts<R: Print>(&mut self, rt: &R, now: u64) -> Result<(), Fault>
         requires { IsListener self.old }
         ensures { IsListener self.new }
     {
         self.lines.clear();
-        put_named(&mut self.lines, b"", now)?;
-        self.lines.extend_from_slice(b": ")?;
-        self.counts.put(&mut self.lines)?;
-        put_feed(&mut self.lines)?;
+        self.put_all_sums(now)?;
+        self.put_last("#: last refused ", now)?;
+        fill(&mut self.lines, "#: ", &[Piece::Number(now)])?;
+        self.put_counts()?;
         print_all(rt, &self.lines)
+    }
+
+    /// What became of each reader's messages.
+    fn put_all_sums(&mut self, now: u64) -> Result<(), Fault>
+        requires { IsListener self.old }
+        ensures { IsListener self.new }
+    {
+        let count = self.group.count();
+        for index in 0..count {
+            self.put_sums(now, index)?;
+        }
+        Ok(())
+    }
+
+    /// What became of a reader's messages.
+    fn put_sums(&mut self, now: u64, index: u8) -> Result<(), Fault>
+        requires listener { IsListener self.old }
+        requires index { index < readers_of self.old }
+        ensures listener { IsListener self.new }
+        ensures count { readers_of self.new ≡ readers_of self.old }
+    {
+        let part = part_of(self.config, usize::from(index));
+        let name = part.name.as_str();
+        Head { moment: now, name }.put(&mut self.lines)?;
+        let notice = self.group.notice(index);
+        let untaken = &self.told[usize::from(index)].untaken;
+        untaken.put_sums(&mut self.lines, &notice, meta_of(self.config, part))?;
+        Ok(put_feed(&mut self.lines)?)
     }
 }
 

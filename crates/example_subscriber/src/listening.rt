@@ -83,7 +83,7 @@ fn hear<R: Files + Print + Clock, L: Link>(
             Ok(now)
         }
         Received::Long(_) | Received::Failed => {
-            listener.lose();
+            listener.fail();
             Ok(now)
         }
         Received::Nothing => Ok(now),
@@ -105,10 +105,13 @@ fn take<R: Files + Print>(
     ensures listener { IsListener listener.new }
 {
     let first = listener.give(now, datagram);
-    if !asks_for_keys(&first) || !finds_keys(rt, alloc, config, now, file, listener)? {
+    if !asks_for_keys(&first) || !finds_keys(rt, alloc, config, now, file, listener) {
         return listener.count(&first);
     }
     let last = listener.give(now, datagram);
+    if !asks_for_keys(&last) {
+        listener.tell_keys(rt, now)?;
+    }
     listener.count(&last)
 }
 
@@ -118,24 +121,24 @@ fn asks_for_keys(answer: &Result<Taken, Refusal>) -> bool {
 }
 
 /// Goes on with the keys that the file has now, where it has some. The answer is whether it has.
-fn finds_keys<R: Files + Print>(
+fn finds_keys<R: Files>(
     rt: &R,
     alloc: Global,
     config: &Config,
     now: u64,
     file: &mut KeyFile<'_>,
     listener: &mut Listener<'_>,
-) -> Result<bool, Fault>
+) -> bool
     requires good { IsGood config.now }
     requires listener { IsListener listener.old }
     ensures listener { IsListener listener.new }
 {
     match file.ring(rt, alloc, now, config) {
         Some(ring) => {
-            listener.renew(rt, now, ring)?;
-            Ok(true)
+            listener.renew(ring);
+            true
         }
-        None => Ok(false),
+        None => false,
     }
 }
 

@@ -1,14 +1,12 @@
-//! The live view: a line for each reader and one for the group, rewritten in place on a terminal.
+//! The live view: lines for each reader and for the group, rewritten in place on a terminal.
 ghost use Rattle.std.specs.Prelude.{◌≡◌};
 ghost use Rattle.dataset_reader.specs.Reader.{IsReaderOf};
 
 use crate::news::Standing;
-use crate::untaken::Untaken;
-use dataset_meta::Meta;
-use dataset_reader::Reader;
+use crate::text::{Piece, fill};
+use crate::untaken::{Glance, Untaken};
 use example_parts::Fault;
-use ps_report::{put, put_named, put_row, put_waits};
-use reader_group::Notice;
+use ps_report::{put_feed, put_row, put_waits};
 
 /// How often lines are written, in milliseconds.
 pub const DRAWING: u64 = 100;
@@ -16,15 +14,14 @@ pub const DRAWING: u64 = 100;
 /// Over how long messages are counted for a rate, in milliseconds.
 const SECOND: u64 = 1000;
 
+/// How many columns a line has at most.
+const COLUMNS: usize = 79;
+
 /// What was seen of a reader's messages.
 #[derive(Clone, Copy)]
 pub struct Mark {
     number: Option<u16>,
     breaks: u64,
-    /// When the last one was taken.
-    seen: u64,
-    /// How many messages its numbers say are missing.
-    lost: u64,
     messages: u64,
     /// Since when messages are counted for the next rate, and how many there were then.
     since: u64,
@@ -36,8 +33,6 @@ impl Mark {
     pub const NOTHING: Mark = Mark {
         number: None,
         breaks: 0,
-        seen: 0,
-        lost: 0,
         messages: 0,
         since: 0,
         before: 0,
@@ -45,14 +40,12 @@ impl Mark {
     };
 
     /// A look behind a datagram or a wait.
-    pub fn note(&mut self, now: u64, reader: &Reader, notice: &Notice) {
-        let number = reader.number();
-        let breaks = reader.breaks();
+    pub fn note(&mut self, now: u64, glance: &Glance<'_>) {
+        let number = glance.reader.number();
+        let breaks = glance.reader.breaks();
         if breaks != self.breaks || number != self.number && number.is_some() {
             self.messages = self.messages.saturating_add(1);
         }
-        self.seen = notice.seen.unwrap_or(0);
-        self.lost = notice.lost;
         self.number = number;
         self.breaks = breaks;
         if now.saturating_sub(self.since) >= SECOND {
@@ -62,80 +55,115 @@ impl Mark {
         }
     }
 
-    /// The line of a reader: its state, the number of the message that it holds, the version of its data set (OPC 10000-14 5.2.3), how
-    /// old its last message is, how many come in a second and how many were lost, why the last that wasn't taken wasn't, and the row or
-    /// why it waits.
-    pub fn put_line(
+    /// The lines of a reader: its state, the number of the message that it holds, the version of its data set (OPC 10000-14 5.2.3), how
+    /// old its last message is, how many come in a second and how many were lost; the row, or why it waits; and why the last message
+    /// that wasn't taken wasn't.
+    pub fn put_lines(
         &self,
         out: &mut Vec<u8>,
         now: u64,
-        name: &[u8],
-        meta: &Meta,
-        reader: &Reader,
+        glance: &Glance<'_>,
         standing: Standing,
         untaken: &Untaken,
     ) -> Result<(), Fault>
-        requires { IsReaderOf meta.now reader.now }
+        requires { IsReaderOf glance.now.meta.now glance.now.reader.now }
     {
-        put(out, name)?;
-        put(out, b" ")?;
-        put(out, state_of(standing))?;
-        self.put_counts(out, now, meta)?;
-        if untaken.is_some() {
-            put(out, b",")?;
-            untaken.put(out)?;
+        self.put_standing(out, glance.part.name.as_str(), state_of(standing))?;
+        self.put_times(out, now, glance)?;
+        match glance.reader.row() {
+            Some(row) => put_row(out, glance.meta, row)?,
+            None => put_waits(out, glance.reader.why())?,
         }
-        put(out, b":")?;
-        match reader.row() {
-            Some(row) => put_row(out, meta, row)?,
-            None => put_waits(out, reader.why())?,
+        put_feed(out)?;
+        if untaken.is_some() {
+            untaken.put_line(out, glance.meta)?;
+            put_feed(out)?;
         }
         Ok(())
     }
 
-    fn put_counts(&self, out: &mut Vec<u8>, now: u64, meta: &Meta) -> Result<(), Fault> {
+    fn put_standing(
+        &self,
+        out: &mut Vec<u8>,
+        name: &str,
+        state: &'static str,
+    ) -> Result<(), Fault> {
+        fill(out, name, &[])?;
+        fill(out, " # number ", &[Piece::Word(state)])?;
         match self.number {
-            Some(number) => put_named(out, b" number ", u64::from(number))?,
-            None => put(out, b" number -")?,
+            Some(number) => fill(out, "#", &[Piece::Number(u64::from(number))]),
+            None => fill(out, "-", &[]),
         }
-        put_named(out, b" version ", u64::from(meta.major()))?;
-        put_named(out, b".", u64::from(meta.minor()))?;
-        put_named(out, b" age ", now.saturating_sub(self.seen))?;
-        put_named(out, b" ms, ", self.rate)?;
-        put_named(out, b" a second, lost ", self.lost)?;
-        Ok(())
+    }
+
+    fn put_times(&self, out: &mut Vec<u8>, now: u64, glance: &Glance<'_>) -> Result<(), Fault> {
+        let major = u64::from(glance.meta.major());
+        let minor = u64::from(glance.meta.minor());
+        let age = now.saturating_sub(glance.notice.seen.unwrap_or(0));
+        fill(
+            out,
+            " version #.# age # ms, # a second, lost #\n",
+            &[
+                Piece::Number(major),
+                Piece::Number(minor),
+                Piece::Number(age),
+                Piece::Number(self.rate),
+                Piece::Number(glance.notice.lost),
+            ],
+        )
     }
 }
 
 /// The state of a reader as a component (OPC 10000-14 6.2.1).
-fn state_of(standing: Standing) -> &'static [u8] {
+fn state_of(standing: Standing) -> &'static str {
     if standing.is_late {
-        b"error"
+        "error"
     } else if standing.is_ready {
-        b"operational"
+        "operational"
     } else {
-        b"preoperational"
+        "preoperational"
     }
 }
 
-/// The begin of a view over one of so many lines: back to its first line. Lines that are longer than the terminal are cut.
-pub fn put_begin(out: &mut Vec<u8>, lines: u64) -> Result<(), Fault> {
-    if lines > 0 {
-        put_named(out, b"\x1b[", lines)?;
-        put(out, b"A")?;
+/// These lines in the place of so many that were drawn before, which are erased. A line that is too long goes on in another one. The
+/// answer is how many lines stand there then.
+pub fn put_drawing(out: &mut Vec<u8>, lines: &[u8], drawn: u64) -> Result<u64, Fault> {
+    if drawn > 0 {
+        fill(out, "\x1b[#A", &[Piece::Number(drawn)])?;
     }
-    put(out, b"\x1b[?7l")?;
-    Ok(())
+    fill(out, "\r\x1b[J\x1b[?7l", &[])?;
+    let count = put_folded(out, lines)?;
+    fill(out, "\x1b[?7h", &[])?;
+    Ok(count)
 }
 
-/// The begin of a line, in place of what stood there.
-pub fn put_clear(out: &mut Vec<u8>) -> Result<(), Fault> {
-    put(out, b"\r\x1b[2K")?;
-    Ok(())
+fn put_folded(out: &mut Vec<u8>, lines: &[u8]) -> Result<u64, Fault> {
+    let mut count = 0u64;
+    let mut column = 0usize;
+    for at in 0..lines.len() {
+        let byte = lines[at];
+        let is_full = byte == b' '
+            && column > 0
+            && column.saturating_add(word_length(&lines[at + 1..])) >= COLUMNS;
+        if byte == b'\n' || is_full || column >= COLUMNS {
+            put_feed(out)?;
+            count = count.saturating_add(1);
+            column = 0;
+        }
+        if byte != b'\n' {
+            out.push(byte)?;
+            column = column.saturating_add(1);
+        }
+    }
+    Ok(count)
 }
 
-/// The end of a view: the terminal is as it was.
-pub fn put_end(out: &mut Vec<u8>) -> Result<(), Fault> {
-    put(out, b"\x1b[?7h")?;
-    Ok(())
+/// How many bytes stand before the next space or the end of the line; a word that is longer than a line is as long as one.
+fn word_length(bytes: &[u8]) -> usize {
+    for at in 0..bytes.len().min(COLUMNS) {
+        if bytes[at] == b' ' || bytes[at] == b'\n' {
+            return at;
+        }
+    }
+    bytes.len().min(COLUMNS)
 }

@@ -4,12 +4,17 @@
 //! the same lines again and again in place.
 #![tactic(auto)]
 
-mod causes;
+mod cause;
+mod counts;
+mod faults;
+mod heard;
 mod key_file;
 mod listener;
 mod listening;
 mod live;
 mod news;
+mod refusing;
+mod text;
 mod untaken;
 
 use crate::key_file::KeyFile;

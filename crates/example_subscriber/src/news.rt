@@ -4,13 +4,13 @@ ghost use Rattle.row_words.specs.Belonging.{Belongs};
 ghost use Rattle.dataset_reader.specs.Reader.{IsReaderOf};
 
 use crate::live::Mark;
-use crate::untaken::Untaken;
+use crate::text::{Piece, fill};
+use crate::untaken::{Glance, Untaken};
 use dataset_meta::Meta;
 use dataset_reader::Reader;
 use example_parts::Fault;
 use ps_report::{put, put_feed, put_named, put_row, put_waits};
 use pubsub_model::Why;
-use reader_group::Notice;
 use row_words::Row;
 
 /// Whether a reader is ready (it held a row, and no timeout has come since), whether it is late (its timeout came, and no message
@@ -46,15 +46,13 @@ enum Held {
 #[derive(Clone, Copy)]
 pub struct Head<'a> {
     pub moment: u64,
-    pub name: &'a [u8],
+    pub name: &'a str,
 }
 
 impl Head<'_> {
-    fn put(&self, out: &mut Vec<u8>) -> Result<(), Fault> {
-        put_named(out, b"", self.moment)?;
-        put(out, b": ")?;
-        put(out, self.name)?;
-        Ok(())
+    pub fn put(&self, out: &mut Vec<u8>) -> Result<(), Fault> {
+        let (moment, name) = (Piece::Number(self.moment), Piece::Word(self.name));
+        fill(out, "#: #", &[moment, name])
     }
 }
 
@@ -87,28 +85,33 @@ impl Told {
     }
 
     /// Puts a line for each thing that is new: why a message wasn't taken; that the reader waits, and why; that it recovered, and after
-    /// how long; another row; and the way of what hangs on it to its safe state or back.
+    /// how long; another row; the way of what hangs on it to its safe state or back; and what comes while it waits.
     pub fn put_news(
         &mut self,
         out: &mut Vec<u8>,
         head: &Head<'_>,
-        meta: &Meta,
-        reader: &Reader,
-        notice: &Notice,
+        glance: &Glance<'_>,
         is_fresh: bool,
     ) -> Result<(), Fault>
-        requires { IsReaderOf meta.now reader.now }
+        requires { IsReaderOf glance.now.meta.now glance.now.reader.now }
     {
-        if self.untaken.look(notice, reader.passed()) {
+        let (meta, reader) = (glance.meta, glance.reader);
+        if self.untaken.look(head.moment, glance) {
             head.put(out)?;
-            self.untaken.put(out)?;
+            self.untaken.put(out, meta)?;
             put_feed(out)?;
         }
         match reader.row() {
             None => self.put_wait(out, head, reader)?,
             Some(row) => self.put_hold(out, head, meta, row)?,
         }
-        self.put_safety(out, head, is_fresh)
+        self.put_safety(out, head, is_fresh)?;
+        if self.untaken.listen(glance) {
+            head.put(out)?;
+            self.untaken.put_heard(out)?;
+            put_feed(out)?;
+        }
+        Ok(())
     }
 
     fn put_wait(
@@ -161,21 +164,25 @@ impl Told {
         Ok(())
     }
 
-    /// The line of the live view.
-    pub fn put_line(
-        &self,
+    /// Puts the reader's lines of the live view, where they are drawn.
+    pub fn put_live(
+        &mut self,
         out: &mut Vec<u8>,
         now: u64,
-        name: &[u8],
-        meta: &Meta,
-        reader: &Reader,
+        glance: &Glance<'_>,
         standing: Standing,
+        draws: bool,
     ) -> Result<(), Fault>
-        requires { IsReaderOf meta.now reader.now }
+        requires { IsReaderOf glance.now.meta.now glance.now.reader.now }
     {
-        let untaken = &self.untaken;
+        self.untaken.look(now, glance);
+        self.untaken.listen(glance);
+        self.mark.note(now, glance);
+        if !draws {
+            return Ok(());
+        }
         self.mark
-            .put_line(out, now, name, meta, reader, standing, untaken)
+            .put_lines(out, now, glance, standing, &self.untaken)
     }
 
     /// What hangs on the values of a reader runs while its row is fresh: one is held that was confirmed a short time ago. A timeout alone

@@ -1,25 +1,27 @@
-//! Why datagrams and messages aren't taken.
-use crate::causes::cause_of;
-use chunker::ChunkFault;
-use dataset_reader::Passed;
+//! What of a reader's messages isn't taken, and why.
+use crate::cause::Cause;
+use crate::faults::{part_cause, put_field};
+use crate::heard::Heard;
+use crate::text::{Piece, fill, put_counts};
+use dataset_meta::Meta;
+use dataset_reader::{Passed, Reader};
 use example_parts::Fault;
-use frame_codec::{FieldFault, FrameFault};
-use message_guard::OpenFault;
-use ps_config::Publisher;
-use ps_report::{put, put_named};
-use reader_group::{LastRefusal, Notice, PartFault, Refusal, Sender};
+use frame_codec::FieldFault;
+use ps_config::{NumberingWord, ReaderPart};
+use pubsub_model::Why;
+use reader_group::Notice;
 
-/// Why a message for a reader wasn't taken.
-#[derive(Clone, Copy, PartialEq, Eq)]
-enum Cause {
-    /// It couldn't be read, at this field where a value is at fault.
-    Bad(PartFault, Option<FieldFault>),
-    /// It is of this other major version of the data set.
-    OtherMajor(u32),
-    /// It has no number; or it is a delta frame, where the reader goes by none.
-    Unnumbered,
-    /// It isn't newer than the last one.
-    Older,
+/// How long no other line is put after one that a message can't be read, in milliseconds.
+const SECOND: u64 = 1000;
+
+/// What a look at a reader finds: the reader, what is noted of it, and its part of the configuration; and the last datagram.
+#[derive(Clone, Copy)]
+pub struct Glance<'a> {
+    pub part: &'a ReaderPart,
+    pub meta: &'a Meta,
+    pub reader: &'a Reader,
+    pub notice: &'a Notice,
+    pub heard: &'a Heard,
 }
 
 /// How many messages for a reader weren't taken, and why the last one wasn't.
@@ -27,7 +29,53 @@ enum Cause {
 pub struct Untaken {
     bad: u64,
     passed: Passed,
-    cause: Option<Cause>,
+    stored: u64,
+    seen: Option<u64>,
+    last: Option<Last>,
+    /// Whether a row was stored since.
+    is_before: bool,
+    /// The last for which a line was put, and the next moment at which one is put for another.
+    told: Option<Last>,
+    next: u64,
+    /// What comes while it waits for its first row since it was cut.
+    heard: Option<&'static str>,
+}
+
+/// The last message that wasn't taken.
+#[derive(Clone, Copy)]
+struct Last {
+    /// What the reader does with it.
+    verb: &'static str,
+    cause: Cause,
+    field: Option<FieldFault>,
+}
+
+impl Last {
+    fn passed(cause: Cause) -> Last {
+        Last {
+            verb: "passes over",
+            cause,
+            field: None,
+        }
+    }
+
+    /// Whether it is told like the other: numbers that change with each message aren't looked at.
+    fn is_like(&self, other: &Last) -> bool {
+        self.cause.word == other.cause.word && self.field == other.field
+    }
+
+    fn put(&self, out: &mut Vec<u8>, meta: &Meta) -> Result<(), Fault> {
+        fill(out, " # ", &[Piece::Word(self.verb)])?;
+        self.put_cause(out, meta)
+    }
+
+    fn put_cause(&self, out: &mut Vec<u8>, meta: &Meta) -> Result<(), Fault> {
+        self.cause.put(out)?;
+        match &self.field {
+            Some(field) => put_field(out, field, meta),
+            None => Ok(()),
+        }
+    }
 }
 
 impl Untaken {
@@ -38,139 +86,163 @@ impl Untaken {
             unnumbered: 0,
             older: 0,
         },
-        cause: None,
+        stored: 0,
+        seen: None,
+        last: None,
+        is_before: false,
+        told: None,
+        next: 0,
+        heard: None,
     };
 
-    /// A look after a datagram or a wait. The answer is whether a message wasn't taken for another cause than the last before it.
-    pub fn look(&mut self, notice: &Notice, passed: Passed) -> bool {
-        let cause = self.cause_since(notice, &passed);
-        self.bad = notice.bad;
-        self.passed = passed;
-        if cause.is_none() || cause == self.cause {
+    /// A look after a datagram or a wait. The answer is whether there is a line to put: a message wasn't taken for another cause than
+    /// the last one that was told. Where messages can't be read there is one a second at most, since with another key each has another
+    /// cause.
+    pub fn look(&mut self, now: u64, glance: &Glance<'_>) -> bool {
+        let last = self.last_since(glance);
+        if glance.notice.stored != self.stored {
+            self.is_before = true;
+        }
+        let is_bad = glance.notice.bad != self.bad;
+        self.bad = glance.notice.bad;
+        self.passed = glance.reader.passed();
+        self.stored = glance.notice.stored;
+        match last {
+            Some(last) => self.note(now, last, is_bad),
+            None => false,
+        }
+    }
+
+    fn note(&mut self, now: u64, last: Last, is_bad: bool) -> bool {
+        self.last = Some(last);
+        self.is_before = false;
+        let is_told = match &self.told {
+            Some(told) => told.is_like(&last),
+            None => false,
+        };
+        if is_told || now < self.next {
             return false;
         }
-        self.cause = cause;
+        self.told = Some(last);
+        self.next = if is_bad {
+            now.saturating_add(SECOND)
+        } else {
+            now
+        };
         true
     }
 
-    fn cause_since(&self, notice: &Notice, passed: &Passed) -> Option<Cause> {
+    fn last_since(&self, glance: &Glance<'_>) -> Option<Last> {
+        let (notice, passed) = (glance.notice, glance.reader.passed());
         if notice.bad != self.bad {
-            return Some(Cause::Bad(notice.fault?, notice.field));
+            let fields = glance.meta.fields().len() as u64;
+            return Some(Last {
+                verb: "can't read",
+                cause: part_cause(notice.fault?, glance.heard, glance.part, fields),
+                field: notice.field,
+            });
         }
         if passed.wrong_major != self.passed.wrong_major {
-            return Some(Cause::OtherMajor(notice.major?));
+            let (came, wanted) = (u64::from(notice.major?), u64::from(glance.meta.major()));
+            let cause = Cause::told("OtherMajor", ", came #, wanted #", came, wanted);
+            return Some(Last::passed(cause));
         }
         if passed.unnumbered != self.passed.unnumbered {
-            return Some(Cause::Unnumbered);
+            return Some(Last::passed(unnumbered(glance.part.numbering)));
         }
         if passed.older != self.passed.older {
-            return Some(Cause::Older);
+            return Some(Last::passed(Cause::named("Older")));
         }
         None
     }
 
-    /// Whether there was a message that wasn't taken.
-    pub fn is_some(&self) -> bool {
-        self.cause.is_some()
+    /// A look at what comes while the reader waits for its first row since it was cut. The answer is whether there is a line to put:
+    /// one for each such wait.
+    pub fn listen(&mut self, glance: &Glance<'_>) -> bool {
+        let seen = self.seen;
+        self.seen = glance.notice.seen;
+        if glance.reader.row().is_some() || glance.reader.why() == Why::Gap {
+            self.heard = None;
+            return false;
+        }
+        if self.heard.is_some() {
+            return false;
+        }
+        if self.seen.is_some() && seen != self.seen {
+            self.heard = Some(" hears NoKeyFrame, a delta frame or a keep-alive");
+        } else if glance.heard.is_chunk && glance.heard.writer == Some(glance.part.writer) {
+            self.heard = Some(" hears Chunk, a part of a message");
+        }
+        self.heard.is_some()
     }
 
     /// Why the last message that wasn't taken wasn't, if there was one.
-    pub fn put(&self, out: &mut Vec<u8>) -> Result<(), Fault> {
-        match self.cause {
+    pub fn put(&self, out: &mut Vec<u8>, meta: &Meta) -> Result<(), Fault> {
+        match &self.last {
+            Some(last) => last.put(out, meta),
             None => Ok(()),
-            Some(Cause::Bad(fault, field)) => put_bad(out, fault, field),
-            Some(Cause::OtherMajor(got)) => {
-                Ok(put_named(out, b" passes over OtherMajor ", u64::from(got))?)
+        }
+    }
+
+    /// What comes while it waits.
+    pub fn put_heard(&self, out: &mut Vec<u8>) -> Result<(), Fault> {
+        match self.heard {
+            Some(heard) => fill(out, heard, &[]),
+            None => Ok(()),
+        }
+    }
+
+    /// The line of the live view on what isn't taken, if there is something to say.
+    pub fn put_line(&self, out: &mut Vec<u8>, meta: &Meta) -> Result<(), Fault> {
+        self.put_heard(out)?;
+        let Some(last) = &self.last else {
+            return Ok(());
+        };
+        if self.is_before {
+            fill(out, " before:", &[])?;
+        }
+        last.put(out, meta)
+    }
+
+    /// Whether there is something to say in the live view.
+    pub fn is_some(&self) -> bool {
+        self.last.is_some() || self.heard.is_some()
+    }
+
+    /// All counts, and the last fault.
+    pub fn put_sums(&self, out: &mut Vec<u8>, notice: &Notice, meta: &Meta) -> Result<(), Fault> {
+        fill(
+            out,
+            " stored #, lost #, unreadable #, passed over",
+            &[
+                Piece::Number(notice.stored),
+                Piece::Number(notice.lost),
+                Piece::Number(notice.bad),
+            ],
+        )?;
+        put_counts(
+            out,
+            &[
+                ("OtherMajor", self.passed.wrong_major),
+                ("Unnumbered", self.passed.unnumbered),
+                ("Older", self.passed.older),
+            ],
+        )?;
+        match &self.last {
+            Some(last) => {
+                fill(out, ", last ", &[])?;
+                last.put_cause(out, meta)
             }
-            Some(Cause::Unnumbered) => Ok(put(out, b" passes over Unnumbered")?),
-            Some(Cause::Older) => Ok(put(out, b" passes over Older")?),
+            None => Ok(()),
         }
     }
 }
 
-fn put_bad(out: &mut Vec<u8>, fault: PartFault, field: Option<FieldFault>) -> Result<(), Fault> {
-    put(out, b" can't read ")?;
-    put(out, word_of(fault).as_bytes())?;
-    let Some(field) = field else {
-        return Ok(());
+/// Why a message is passed over that has no place in the run of messages.
+fn unnumbered(numbering: NumberingWord) -> Cause {
+    let pattern = match numbering {
+        NumberingWord::Message => ", came without a number",
+        NumberingWord::None => ", came a delta frame, wanted key frames",
     };
-    put_named(out, b" at field ", u64::from(field.index))?;
-    if let Some(type_byte) = field.type_byte {
-        put_named(out, b", type byte ", u64::from(type_byte))?;
-    }
-    Ok(())
-}
-
-/// The word of a fault.
-fn word_of(fault: PartFault) -> &'static str {
-    match fault {
-        PartFault::Frame(fault) => frame_word(fault),
-        PartFault::Chunk(ChunkFault::Short) => "ChunkShort",
-        PartFault::Chunk(ChunkFault::BadLength) => "BadLength",
-        PartFault::TooLong { .. } => "TooLong",
-        PartFault::BadRange { .. } => "BadRange",
-        PartFault::Differs { .. } => "Differs",
-        PartFault::Missing => "Missing",
-    }
-}
-
-fn frame_word(fault: FrameFault) -> &'static str {
-    match fault {
-        FrameFault::Short => "Short",
-        FrameFault::BadEncoding => "BadEncoding",
-        FrameFault::KindOut => "KindOut",
-        FrameFault::BadValue => "BadValue",
-        FrameFault::BadIndex { .. } => "BadIndex",
-        FrameFault::WrongCount { .. } => "WrongCount",
-        FrameFault::Trailing => "Trailing",
-        FrameFault::NotValid => "NotValid",
-        FrameFault::EventOut => "EventOut",
-        FrameFault::ReservedBits => "ReservedBits",
-    }
-}
-
-/// Why the last datagram that was refused was, and whose it was, as its header tells.
-pub fn put_refusal(out: &mut Vec<u8>, last: &LastRefusal) -> Result<(), Fault> {
-    put(out, cause_of(&last.refusal).as_bytes())?;
-    match last.refusal {
-        Refusal::Guard(OpenFault::UnknownToken { got }) => {
-            put_named(out, b", token ", u64::from(got))?;
-        }
-        Refusal::Guard(OpenFault::OldToken { got, .. }) => {
-            put_named(out, b", token ", u64::from(got))?;
-        }
-        _ => {}
-    }
-    match &last.sender {
-        Some(sender) => put_sender(out, sender),
-        None => Ok(()),
-    }
-}
-
-fn put_sender(out: &mut Vec<u8>, sender: &Sender) -> Result<(), Fault> {
-    if let Some(publisher) = &sender.publisher {
-        put_publisher(out, publisher)?;
-    }
-    if let Some(group) = sender.group {
-        put_named(out, b", group ", u64::from(group))?;
-    }
-    if let Some(version) = sender.version {
-        put_named(out, b", version ", u64::from(version))?;
-    }
-    if let Some(number) = sender.number {
-        put_named(out, b", number ", u64::from(number))?;
-    }
-    Ok(())
-}
-
-/// A PublisherId. A text may have any characters, and isn't shown on a terminal.
-fn put_publisher(out: &mut Vec<u8>, publisher: &Publisher) -> Result<(), Fault> {
-    match publisher {
-        Publisher::U8(id) => put_named(out, b", publisher u8:", u64::from(*id))?,
-        Publisher::U16(id) => put_named(out, b", publisher u16:", u64::from(*id))?,
-        Publisher::U32(id) => put_named(out, b", publisher u32:", u64::from(*id))?,
-        Publisher::U64(id) => put_named(out, b", publisher u64:", *id)?,
-        Publisher::Text(_) => put(out, b", publisher a text")?,
-    }
-    Ok(())
+    Cause::told("Unnumbered", pattern, 0, 0)
 }

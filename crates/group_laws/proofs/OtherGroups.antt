@@ -1,4 +1,4 @@
--- What a read group makes of datagrams of groups that aren't matched.
+-- What a read group makes of datagrams of groups that aren't matched, where nothing is asked of a sender's keys but that the headers can be written.
 use Rattle.std.proofs.Common.{◌≡◌, ◌≢◌, refl, sym, ap, ◌∙◌, subst, arith, ℕ, zero, suc, ◌+◌, ◌<◌, ◌≤◌, ◌^◌, Bool, true, false, not, ◌&&◌, List, [], ◌∷◌, ◌++◌, length, map, All, Contains, Option, Some, None, Result, Ok, Err}
 use Rattle.std.specs.Prelude.{◌==◌, IsErr, drop, filter, nat_lt, slice_index_or, if◌then◌else◌}
 use Rattle.std.specs.Int.{w16, to_le_bytes}
@@ -27,7 +27,7 @@ use Rattle.ps_config.specs.Headers.{mode_of}
 use Rattle.writer_group.specs.Envelopes.{frame_room}
 use Rattle.writer_group.specs.Payloads.{Spelled, size_of, chunk_payload, chunk_payloads, frames_payload, pack_payloads, payloads_by, payloads_of}
 use Rattle.writer_group.specs.Sealing.{AreWritten, Payload, advanced_by, datagram_at, datagrams_from, envelope_with, header_at}
-use Rattle.writer_group.specs.Turns.{GroupDeed, TurnInput, frames_in, made_in, turn_datagrams, turns_from}
+use Rattle.writer_group.specs.Turns.{GroupDeed, TurnInput, envelope_of, frames_in, made_in, turn_datagrams, turns_from}
 use Rattle.reader_group.specs.declared.refusal.Refusal.{Refusal}
 use Rattle.reader_group.specs.declared.refusal.Refusal.TheVariants as refusals
 use Rattle.reader_group.specs.Filter.{is_any_or, is_ours}
@@ -36,11 +36,11 @@ use Rattle.reader_group.specs.Payloads as readers
 use Rattle.reader_group.specs.Payloads.{Piece, Message, Chunked, payload_of, pieces}
 use Rattle.message_guard.specs.Opening.{judged}
 use Rattle.message_guard.proofs.Judged.{judged-value}
-use Rattle.group_laws.specs.Matching.{IsGroupTurn}
+use Rattle.ps_config.specs.Sound.{IsGroup}
 use Rattle.group_laws.proofs.Lists.{All-left, All-right}
 use Rattle.group_laws.proofs.OtherReaders.{no-writer-has}
 use Rattle.group_laws.proofs.Taking.{behind, rest_of, sent-split, tests, verdict-written}
-use Rattle.writer_group.proofs.SmallIds.{frames-by, turn-small, group-sound}
+use Rattle.writer_group.proofs.SmallIds.{frames-by, turn-small}
 
 -- ---- a datagram of a turn begins with a header of its group, and has the ids of one of the payloads
 
@@ -83,10 +83,6 @@ of-turn config group made index sender (payload ∷ payloads) datagram written (
     let far = place.1 in
     record { header = later.header; rest = later.rest; bytes = later.bytes; written = later.written; group_is = later.group_is; payload = later.payload; one_of = (suc place.0, omega (arith, far), place.2); ids = later.ids }
 
-pub turn-of : (config : Config) (group : GroupPart) (past : List GroupDeed) (input : TurnInput) (datagram : List ℕ) → IsGroupTurn config group past input → Contains (turn_datagrams config group past input) datagram
-    → IsOfTurn group (payloads_of config group (frames_in group past input)) datagram
-turn-of config group past input datagram turn has = of-turn config group (made_in past) 0 input.sender (payloads_of config group (frames_in group past input)) datagram turn.written has
-
 read-as : (reads : ReadGroupPart) (setup : Setup) (accepted : Accepted) (group : GroupPart) (payloads : List Payload) (datagram : List ℕ) (is : IsOfTurn group payloads datagram)
     → verdict reads setup accepted datagram ≡ tests reads setup accepted (header_bytes is.header ++ is.rest) is.header (length (header_bytes is.header))
 read-as reads setup accepted group payloads datagram is = ap (verdict reads setup accepted) is.bytes ∙ verdict-written reads setup accepted is.header is.rest is.written
@@ -104,14 +100,13 @@ refused-first : (ours : Bool) (list : Refusals) (x : Opened) → ours ≡ false 
 refused-first false list x is = refl
 refused-first true list x is = absurd (let wrong : Path Bool true false = is in cc)
 
-pub not-named : (config : Config) (group : GroupPart) (past : List GroupDeed) (input : TurnInput) (readers : ReadGroupPart) (setup : Setup) (accepted : Accepted) (datagram : List ℕ) → IsGroupTurn config group past input
-    → Contains (turn_datagrams config group past input) datagram → readers.group ≢ 0 → readers.group ≢ group.id → verdict readers setup accepted datagram ≡ Err refusals.NotOurs
-not-named config group past input readers setup accepted datagram turn has some differ =
-    let is = turn-of config group past input datagram turn has in
+pub not-named : (readers : ReadGroupPart) (setup : Setup) (accepted : Accepted) (group : GroupPart) (payloads : List Payload) (datagram : List ℕ) → IsOfTurn group payloads datagram → readers.group ≢ 0 → readers.group ≢ group.id
+    → verdict readers setup accepted datagram ≡ Err refusals.NotOurs
+not-named readers setup accepted group payloads datagram is some differ =
     let bytes = header_bytes is.header ++ is.rest in
     let at = length (header_bytes is.header) in
     let other : is_any_or readers.group is.header.group ≡ false = ap (is_any_or readers.group) is.group_is ∙ other-id readers.group group.id some differ in
-    read-as readers setup accepted group (payloads_of config group (frames_in group past input)) datagram is
+    read-as readers setup accepted group payloads datagram is
     ∙ refused-first (is_ours readers is.header) (behind readers setup accepted bytes is.header at) (opened_as readers setup bytes is.header at) (not-third _ _ _ _ other)
 
 -- ---- a read group of a dynamic layout, and a fixed group
@@ -133,17 +128,16 @@ fixed-ids config group frames payload is has = on (nat_lt 0 (length group.writer
     on true (suc k, below, same) = absurd (omega (arith, below))
     on false here = absurd (let below = here.1 in omega (arith, below))
 
-pub fixed-refused : (config : Config) (group : GroupPart) (past : List GroupDeed) (input : TurnInput) (readers : ReadGroupPart) (setup : Setup) (accepted : Accepted) (datagram : List ℕ) → IsGroupTurn config group past input
-    → Contains (turn_datagrams config group past input) datagram → group.layout ≡ layouts.Fixed → readers.layout ≡ layouts.Dynamic → IsErr (verdict readers setup accepted datagram)
-fixed-refused config group past input readers setup accepted datagram turn has fixed dynamic =
-    let is = turn-of config group past input datagram turn has in
-    let none : is.header.ids ≡ NoIds = is.ids ∙ fixed-ids config group (frames_in group past input) is.payload fixed is.one_of in
+pub fixed-refused : (config : Config) (group : GroupPart) (frames : List Spelled) (readers : ReadGroupPart) (setup : Setup) (accepted : Accepted) (datagram : List ℕ) → IsOfTurn group (payloads_of config group frames) datagram
+    → group.layout ≡ layouts.Fixed → readers.layout ≡ layouts.Dynamic → IsErr (verdict readers setup accepted datagram)
+fixed-refused config group frames readers setup accepted datagram is fixed dynamic =
+    let none : is.header.ids ≡ NoIds = is.ids ∙ fixed-ids config group frames is.payload fixed is.one_of in
     let bytes = header_bytes is.header ++ is.rest in
     let at = length (header_bytes is.header) in
     let found = guards.pass_of setup.mode is.header.security bytes in
     let first = (not (is_ours readers is.header), refusals.NotOurs) ∷ guard_refusals (guards.refusals setup.mode setup.keys accepted is.header.security bytes at) in
     let x = opened_as readers setup bytes is.header at in
-    subst (λ (answer : Result Opened Refusal). IsErr answer) (sym (read-as readers setup accepted group (payloads_of config group (frames_in group past input)) datagram is))
+    subst (λ (answer : Result Opened Refusal). IsErr answer) (sym (read-as readers setup accepted group (payloads_of config group frames) datagram is))
     (err-behind first (payload_refusals readers.layout is.header.ids (drop at (decrypted setup found at bytes))) x
     (no-ids-refused readers.layout is.header.ids (drop at (decrypted setup found at bytes)) x dynamic none))
 
@@ -204,31 +198,35 @@ packs-none writer room (pack ∷ packs) all =
     (pack-none writer room pack pack.cut refl (All-left (IsOther writer) pack.frames (flat_map (λ (p : Packed Spelled). p.frames) packs) all))
     (packs-none writer room packs (All-right (IsOther writer) pack.frames (flat_map (λ (p : Packed Spelled). p.frames) packs) all))
 
-dynamic-none : (config : Config) (group : GroupPart) (past : List GroupDeed) (input : TurnInput) (writer : ℕ) → IsGroupTurn config group past input → group.layout ≡ layouts.Dynamic → 1 ≤ writer → All (λ w. w.id ≢ writer) group.writer
-    → All (HasNo writer) (payloads_of config group (frames_in group past input))
-dynamic-none config group past input writer turn is some all =
-    let frames = frames_in group past input in
-    let small = turn-small config group past input (group-sound config group turn.sound turn.group_is) in
-    let by = frames-by group input.told.metas past 0 (turns_from group input.told 0 input.on) in
-    let others : All (IsOther writer) frames = λ k d below. record { small = (small k d below).id; other = λ same. no-writer-has group writer (slice_index_or frames k d).writer some all (sym (by k d below).id ∙ same) } in
-    let room = frame_room config.publisher.id group in
-    subst (λ (l : Layout). All (HasNo writer) (payloads_by l config group frames)) (sym is)
-    (packs-none writer (chunk_room config.publisher.id group) (packs_of size_of room frames) (subst (λ (l : List Spelled). All (IsOther writer) l) (sym (packs-frames size_of room frames)) others))
+module _ (config : Config) (group : GroupPart) (past : List GroupDeed) (input : TurnInput) (sound : IsGroup config group) where
+  abbrev payloads : List Payload
+  payloads = payloads_of config group (frames_in group past input)
 
-pub others-pieces : (config : Config) (group : GroupPart) (past : List GroupDeed) (input : TurnInput) (readers : ReadGroupPart) (setup : Setup) (accepted : Accepted) (datagram : List ℕ) (opened : Opened) (reader : ReaderPart)
-    → IsGroupTurn config group past input → Contains (turn_datagrams config group past input) datagram → group.layout ≡ layouts.Dynamic → readers.layout ≡ layouts.Dynamic → 1 ≤ reader.writer
-    → All (λ w. w.id ≢ reader.writer) group.writer → verdict readers setup accepted datagram ≡ Ok opened → pieces reader opened.payload ≡ []
-others-pieces config group past input readers setup accepted datagram opened reader turn has dynamic reads_dynamic some all taken =
-    let payloads = payloads_of config group (frames_in group past input) in
-    let is = turn-of config group past input datagram turn has in
-    let bytes = header_bytes is.header ++ is.rest in
-    let at = length (header_bytes is.header) in
-    let x = opened_as readers setup bytes is.header at in
-    let same : x ≡ opened = judged-value (list_of readers setup accepted bytes is.header at) x opened (sym (read-as readers setup accepted group payloads datagram is) ∙ taken) in
-    let found = guards.pass_of setup.mode is.header.security bytes in
-    let clear = decrypted setup found at bytes in
-    let none : All (IsNo reader.writer) (ids_list is.header.ids) = subst (λ (i : IdsValue). All (IsNo reader.writer) (ids_list i)) (sym is.ids)
-    (All-contains (HasNo reader.writer) payloads is.payload (dynamic-none config group past input reader.writer turn dynamic some all) is.one_of) in
-    ap (λ (o : Opened). pieces reader o.payload) (sym same)
-    ∙ ap (λ (l : Layout). pieces reader (payload_of l is.header.ids at clear)) reads_dynamic
-    ∙ no-piece reader is.header.ids (drop at clear) none
+  -- of each datagram of a turn, whose headers can be written
+  pub turn-of : (datagram : List ℕ) → AreWritten (envelope_of config group past) input.sender 0 payloads → Contains (turn_datagrams config group past input) datagram → IsOfTurn group payloads datagram
+  turn-of datagram written has = of-turn config group (made_in past) 0 input.sender payloads datagram written has
+
+  dynamic-none : (writer : ℕ) → group.layout ≡ layouts.Dynamic → 1 ≤ writer → All (λ w. w.id ≢ writer) group.writer → All (HasNo writer) payloads
+  dynamic-none writer is some all =
+      let frames = frames_in group past input in
+      let small = turn-small config group past input sound in
+      let by = frames-by group input.told.metas past 0 (turns_from group input.told 0 input.on) in
+      let others : All (IsOther writer) frames = λ k d below. record { small = (small k d below).id; other = λ same. no-writer-has group writer (slice_index_or frames k d).writer some all (sym (by k d below).id ∙ same) } in
+      let room = frame_room config.publisher.id group in
+      subst (λ (l : Layout). All (HasNo writer) (payloads_by l config group frames)) (sym is)
+      (packs-none writer (chunk_room config.publisher.id group) (packs_of size_of room frames) (subst (λ (l : List Spelled). All (IsOther writer) l) (sym (packs-frames size_of room frames)) others))
+
+  pub others-pieces : (readers : ReadGroupPart) (setup : Setup) (accepted : Accepted) (datagram : List ℕ) (opened : Opened) (reader : ReaderPart) → IsOfTurn group payloads datagram → group.layout ≡ layouts.Dynamic
+      → readers.layout ≡ layouts.Dynamic → 1 ≤ reader.writer → All (λ w. w.id ≢ reader.writer) group.writer → verdict readers setup accepted datagram ≡ Ok opened → pieces reader opened.payload ≡ []
+  others-pieces readers setup accepted datagram opened reader is dynamic reads_dynamic some all taken =
+      let bytes = header_bytes is.header ++ is.rest in
+      let at = length (header_bytes is.header) in
+      let x = opened_as readers setup bytes is.header at in
+      let same : x ≡ opened = judged-value (list_of readers setup accepted bytes is.header at) x opened (sym (read-as readers setup accepted group payloads datagram is) ∙ taken) in
+      let found = guards.pass_of setup.mode is.header.security bytes in
+      let clear = decrypted setup found at bytes in
+      let none : All (IsNo reader.writer) (ids_list is.header.ids) = subst (λ (i : IdsValue). All (IsNo reader.writer) (ids_list i)) (sym is.ids)
+      (All-contains (HasNo reader.writer) payloads is.payload (dynamic-none reader.writer dynamic some all) is.one_of) in
+      ap (λ (o : Opened). pieces reader o.payload) (sym same)
+      ∙ ap (λ (l : Layout). pieces reader (payload_of l is.header.ids at clear)) reads_dynamic
+      ∙ no-piece reader is.header.ids (drop at clear) none

@@ -62,6 +62,17 @@ element_of writer word versions payload n =
     (with_member (codes "MetaDataVersion") versions (with_member (codes "Payload") payload
     (with_number (codes "SequenceNumber") n no_members)))))
 
+-- the members of every message
+abbrev pub fixed_members : ℕ → List ℕ → ℕ → Members
+fixed_members writer word n =
+    with_number (codes "DataSetWriterId") writer (member (codes "MessageType") (string word)
+    (with_number (codes "SequenceNumber") n no_members))
+
+-- a value in its place among members, where it is there
+abbrev pub put_if : List ℕ → Option Data → Members → Members
+put_if name None ms = ms
+put_if name (Some d) ms = put name d ms
+
 -- the message of a part
 abbrev pub element_json : List MetaData → Part → Data
 element_json metas part =

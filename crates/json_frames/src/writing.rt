@@ -1,15 +1,15 @@
 //! Writing messages.
-ghost use Rattle.std.specs.Prelude.{◌≡◌, List, IfOk, IsUtf8, Some, unwrap_or};
+ghost use Rattle.std.specs.Prelude.{◌≡◌, List, IfOk, IsUtf8, OnOk, Some, unwrap_or};
 ghost use Rattle.std.specs.List.{All};
 ghost use Rattle.serde_json.specs.Read.{read};
-ghost use Rattle.serde_json.specs.View.{view, items_view};
+ghost use Rattle.serde_json.specs.View.{view, items_view, members_view};
 ghost use Rattle.serde_json.specs.Written.{compact_text};
 ghost use Rattle.dataset_meta.specs.declared.field.Field.{Field};
 ghost use Rattle.row_words.specs.Belonging.{Belongs, row_in};
 ghost use Rattle.row_words.specs.Patches.{IsPatchOf, patch_in};
 ghost use Rattle.frame_codec.specs.Words.{content_in, IsKindOf, IsFrameOf};
 ghost use Rattle.json_frames.specs.Parts.{numbered, IsPartOf, part_in, parts_in, meta_at};
-ghost use Rattle.json_frames.specs.Written.{kind_word, fields_json, elements_json, payload_json, versions_json, element_of, element_json, message_json};
+ghost use Rattle.json_frames.specs.Written.{kind_word, fields_json, elements_json, payload_json, versions_json, element_of, element_json, fixed_members, message_json, put_if};
 ghost use Rattle.json_frames.specs.Documents.{value_of};
 ghost use Rattle.json_frames.specs.Calls.{view_if};
 
@@ -19,7 +19,7 @@ use dataset_meta::Meta;
 use frame_codec::FrameKind;
 use itoa::Buffer;
 use row_words::{Patch, Row};
-use serde_json::{Value as Json, json};
+use serde_json::{Map, Value as Json, json, put};
 use std::alloc::{AllocError, Global};
 use std::str;
 use ua_base::NoMemory;
@@ -112,31 +112,47 @@ fn element_of(
     ensures { IfOk result (λ json. view json
         ≡ element_of writer word.now (view_if versions) (view_if payload) number) }
 {
-    match (versions, payload) {
-        (None, None) => json!(in alloc; {
-            "DataSetWriterId": writer,
-            "MessageType": word,
-            "SequenceNumber": number
-        }),
-        (None, Some(payload)) => json!(in alloc; {
-            "DataSetWriterId": writer,
-            "MessageType": word,
-            "Payload": payload,
-            "SequenceNumber": number
-        }),
-        (Some(versions), None) => json!(in alloc; {
-            "DataSetWriterId": writer,
-            "MessageType": word,
-            "MetaDataVersion": versions,
-            "SequenceNumber": number
-        }),
-        (Some(versions), Some(payload)) => json!(in alloc; {
-            "DataSetWriterId": writer,
-            "MessageType": word,
-            "MetaDataVersion": versions,
-            "Payload": payload,
-            "SequenceNumber": number
-        }),
+    let mut members = fixed_members(alloc, writer, word, number)?;
+    put_if(alloc, &mut members, "MetaDataVersion", versions)?;
+    put_if(alloc, &mut members, "Payload", payload)?;
+    Ok(Json::Object(members))
+}
+
+/// The members that every message has.
+fn fixed_members(
+    alloc: Global,
+    writer: u16,
+    word: &str,
+    number: u16,
+) -> Result<Map<String, Json>, AllocError>
+    ensures { IfOk result
+        (λ members. members_view members.entries ≡ fixed_members writer word.now number) }
+{
+    let mut members = Map::new(alloc);
+    put(&mut members, alloc, "DataSetWriterId", Json::from(writer))?;
+    put(
+        &mut members,
+        alloc,
+        "MessageType",
+        Json::try_from_str(alloc, word)?,
+    )?;
+    put(&mut members, alloc, "SequenceNumber", Json::from(number))?;
+    Ok(members)
+}
+
+/// A value in its place among members, where it is there.
+fn put_if(
+    alloc: Global,
+    members: &mut Map<String, Json>,
+    name: &str,
+    value: Option<Json>,
+) -> Result<(), AllocError>
+    ensures { OnOk result (members_view members.new.entries
+        ≡ put_if name.now (view_if value) (members_view members.old.entries)) }
+{
+    match value {
+        None => Ok(()),
+        Some(value) => put(members, alloc, name, value),
     }
 }
 

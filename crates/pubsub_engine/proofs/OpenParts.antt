@@ -1,65 +1,34 @@
 -- A new session: what its parts are when they are made, and that it may be called and stands where no step was.
-use Rattle.std.proofs.Common.{◌≡◌, refl, sym, ap, ◌∙◌, subst, arith, ℕ, zero, suc, ◌+◌, ◌<◌, ◌≤◌, false, List, [], ◌∷◌, length, get_or, map, All}
-use Rattle.std.specs.Prelude.{Option, replicate, vec_len}
+use Rattle.std.proofs.Common.{◌≡◌, refl, sym, ap, ◌∙◌, subst, arith, ℕ, zero, suc, ◌+◌, ◌<◌, ◌≤◌, List, [], ◌∷◌, length, map, All}
+use Rattle.std.specs.Prelude.{Option, replicate, slice_index_or}
 use Rattle.std.proofs.lemmas.List.{get_or-map, length-map}
 use Rattle.std.proofs.lemmas.List.Elements.{length_all_zip}
-use Rattle.dataset_meta.specs.Metas.{MetaData, HasGrown, IsMeta}
+use Rattle.dataset_meta.specs.Metas.{MetaData, HasGrown, IsMeta, no_meta}
 use Rattle.row_words.specs.Belonging.{row_in}
+use Rattle.ps_config.specs.declared.parts.Config.{Config}
+use Rattle.ps_config.specs.declared.parts.ReaderPart.{ReaderPart}
 use Rattle.ps_config.specs.Sound.{readers}
 use Rattle.version_cell.specs.declared.rule.Entry.{Entry}
 use Rattle.version_cell.specs.Known.{Known, nothing}
-use Rattle.version_cell.specs.Cells.{CellData}
+use Rattle.target_cells.specs.Keeping.{TargetsData, metas_of}
+use Rattle.version_cell.specs.Cells.{CellData, IsCell}
 use Rattle.version_cell.specs.Passes.{new_pass}
-use Rattle.version_cell.specs.Sets.{new_passes, no_cell, pass_at}
-use Rattle.writer_group.specs.Standing.{IsGood}
+use Rattle.version_cell.specs.Sets.{ArePassesOf, new_passes, no_cell, pass_at}
 use Rattle.writer_group.specs.declared.sampled.Sampled.{Sampled}
-use Rattle.session_model.specs.Counts.{life_ticks}
-use Rattle.session_model.specs.Sets.{AreRowsOf}
+use Rattle.session_model.specs.Steps.{Plan}
 use Rattle.session_parts.specs.Holding.{AreAllLogged, MayAllGoOn}
-use Rattle.session_parts.specs.Rounds.{HoldRound, IsUnstepped}
 use Rattle.pubsub_engine.specs.declared.size.Append.{Append}
-use Rattle.pubsub_engine.specs.declared.sampling.Samples.{Samples}
-use Rattle.pubsub_engine.specs.declared.storing.Last.{Last}
-use Rattle.pubsub_engine.specs.declared.storing.Stores.{Stores}
+use Rattle.pubsub_engine.specs.declared.size.Size.{Size}
 use Rattle.pubsub_engine.specs.declared.session.Left.{Left}
 use Rattle.pubsub_engine.specs.declared.session.Session.{Session}
-use Rattle.pubsub_engine.specs.Holding.{AreAppends, HoldSets, IsSession, full_of, plan_of}
+use Rattle.pubsub_engine.specs.Holding.{AreTargetsOf, IsBankOf, IsSession, full_of, plan_of}
+use Rattle.pubsub_engine.specs.Opened.{IsFresh, IsNewSession}
 use Rattle.pubsub_engine.specs.Standing.{Stands, opening_sample, samples_of}
 use Rattle.pubsub_engine.specs.Storing.{meta_at_place}
 use Rattle.pubsub_engine.proofs.OpenSets.{full-metas, grow-full}
 use Rattle.pubsub_engine.proofs.Places.{within-all}
 
--- ---- the parts
-
-pub record IsFreshSamples (sets : ℕ) (samples : Samples) : Type 0 where
-  pub rows : (full : List MetaData) → length full ≡ sets → All (λ meta. IsMeta meta.fields) full → AreRowsOf full samples.taken.items
-  pub cut : vec_len samples.cut ≡ sets
-  pub passes : length samples.passes ≡ sets
-
-pub record AreFreshStores (count : ℕ) (stores : Stores) : Type 0 where
-  pub lasts : length stores.last.items ≡ count
-  pub none : (k : ℕ) → k < count → (d : Last) → (get_or stores.last.items k d).is_there ≡ false
-  pub keepers : length stores.keeper ≡ count
-  pub unseen : (k : ℕ) → k < count → (pass_at stores.keeper k).seen ≡ []
-
-abbrev pub left_by : ℕ → ℕ → Left
-left_by turns logged = record { ticks = turns; pumps = 0; stores = turns; logged = logged; is_closed = false }
-
-pub record IsFresh (appends : List Append) (turns logged : ℕ) (s : Session) : Type 0 where
-  pub good : IsGood s.config.now
-  pub few : turns ≤ life_ticks + 1
-  pub one : 1 ≤ turns
-  pub may : AreAppends s.config.now s.config.now.dataset appends
-  pub left : s.left ≡ left_by turns logged
-  pub sets : HoldSets s.config.now s.sets
-  pub first : s.sets.metas.items ≡ s.config.now.dataset
-  pub full : s.sets.full.items ≡ full_of s.config.now.dataset appends
-  pub samples : IsFreshSamples (length s.config.now.dataset) s.samples
-  pub holds : HoldRound s.config.now s.round
-  pub unstepped : (full : List MetaData) → IsUnstepped s.config.now full s.round
-  pub goes_on : MayAllGoOn s.config.now s.config.now.dataset turns s.round.publisher.groups.items
-  pub logs : AreAllLogged logged s.round.publisher.groups.items
-  pub stores : AreFreshStores (length (readers s.config.now)) s.stores
+-- ---- new passes
 
 -- new passes have seen nothing
 pub unseen-new : (cells : List CellData) (author : Option ℕ) (passes : List Known) → passes ≡ new_passes cells author → (k : ℕ) → k < length passes → (pass_at passes k).seen ≡ []
@@ -76,10 +45,9 @@ samples-new [] author (suc n) count = absurd (omega (arith, count))
 samples-new (cell ∷ cells) author zero count = absurd (omega (arith, count))
 samples-new (cell ∷ cells) author (suc n) count = ap (λ (l : List Sampled). opening_sample ∷ l) (samples-new cells author n (omega (arith, count)))
 
--- passes of cells of these metas
-pub count-passes : (cells : List CellData) (author : Option ℕ) (metas : List MetaData) → map (λ cell. cell.meta) cells ≡ metas → length (new_passes cells author) ≡ length metas
-count-passes cells author metas are =
-    length-map cells (λ (cell : CellData). new_pass cell author) ∙ sym (length-map cells (λ (cell : CellData). cell.meta)) ∙ ap (λ (l : List MetaData). length l) are
+-- one of each cell
+pub new-count : (cells : List CellData) (author : Option ℕ) → length (new_passes cells author) ≡ length cells
+new-count cells author = length-map cells (λ (cell : CellData). new_pass cell author)
 
 -- ---- it may be called
 
@@ -117,6 +85,38 @@ fresh-session appends turns logged s fresh =
       time = omega (arith, start, ticks, few);
       calls = omega (arith, ticks, pumps, few);
     }
+
+-- ---- new cells
+
+-- a cell for each data set
+pub new-bank : (metas : List MetaData) (appends : List Append) (bank : List CellData) → map (λ cell. cell.meta) bank ≡ full_of metas appends → length bank ≡ length metas
+new-bank metas appends bank are =
+    sym (length-map bank (λ (cell : CellData). cell.meta)) ∙ ap (λ (l : List MetaData). length l) are ∙ full-count metas appends
+
+-- and one for each reader
+pub new-targets : (config : Config) (cells : List CellData) → map (λ cell. cell.meta) cells ≡ metas_of config.dataset (map (λ reader. reader.dataset) (readers config))
+    → length cells ≡ length (readers config)
+new-targets config cells are =
+    let sets : List ℕ = map (λ (reader : ReaderPart). reader.dataset) (readers config) in
+    sym (length-map cells (λ (cell : CellData). cell.meta)) ∙ ap (λ (l : List MetaData). length l) are
+    ∙ length-map sets (λ (set : ℕ). slice_index_or config.dataset set no_meta) ∙ length-map (readers config) (λ (reader : ReaderPart). reader.dataset)
+
+pub bank-of : (config : Config) (size : Size) (passes keeper : List Known) (s : Session) (bank : List CellData) → IsNewSession config size passes keeper s → ArePassesOf bank passes
+    → map (λ cell. cell.meta) bank ≡ full_of config.dataset size.appends.items → All IsCell bank → IsBankOf s bank
+bank-of config size passes keeper s bank is own metas cells = record {
+  passes = subst (ArePassesOf bank) (sym is.passes) own;
+  metas = metas ∙ sym (ap (λ (p : Plan). p.full) is.plan);
+  cells = cells;
+}
+
+pub targets-of : (config : Config) (size : Size) (passes keeper : List Known) (s : Session) (targets : TargetsData) → IsNewSession config size passes keeper s → ArePassesOf targets.cells keeper
+    → targets.limit ≡ size.ticks + 1 → map (λ cell. cell.meta) targets.cells ≡ metas_of config.dataset (map (λ reader. reader.dataset) (readers config)) → AreTargetsOf s targets
+targets-of config size passes keeper s targets is own limit metas = record {
+  keeper = subst (ArePassesOf targets.cells) (sym is.keeper) own;
+  limit = limit ∙ sym (ap (λ (l : Left). l.stores) is.fresh.left);
+  metas = subst (λ (c : Config). map (λ cell. cell.meta) targets.cells ≡ metas_of c.dataset (map (λ reader. reader.dataset) (readers c)))
+      (sym (ap (λ (p : Plan). p.config) is.plan)) metas;
+}
 
 -- ---- it stands where no step was
 

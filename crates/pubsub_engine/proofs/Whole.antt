@@ -37,21 +37,20 @@ use Rattle.reader_group.specs.Numbered.{HasItsNumber, HaveNumbers, HaveTheirNumb
 use Rattle.reader_group.specs.Plain.{Event, PlainGroup, Setting, member_at, opening, step}
 use Rattle.reader_group.specs.Settings.{group_at as read_group_at, no_group as no_read_group, seat_in, setting_of}
 use Rattle.session_model.specs.Steps.{Plan, Step, Enable, Disable, Append, Tick, Pump}
-use Rattle.session_model.specs.Deeds.{deeds, group_indexes, logs_cut}
-use Rattle.session_model.specs.Events.{events, read_group_indexes}
+use Rattle.session_model.specs.Deeds.{deeds, logs_cut}
+use Rattle.session_model.specs.Events.{events}
 use Rattle.session_model.specs.Keeping.{AreStepsOf}
 use Rattle.session_model.specs.Lives.{Account, Lived, Renewed, Stepped, account_in, account_of, befalls, log_in, steps_in}
 use Rattle.session_model.specs.Readings.{Reading, goes_on, read_on, reads_with, rekeyed_if, setting_in}
 use Rattle.session_model.specs.Closing.{IsClosedAfter, IsClosedTelling, IsReaderEnd, IsWriterEndWith, MemberPlace, TellsEndsIf, TellsNumberAlone, TellsReaderAlone, reader_places, writer_places}
-use Rattle.session_parts.specs.Showing.{link_of}
-use Rattle.session_parts.specs.Standing.{AreReceivesIn, AreSendsIn}
 use Rattle.pubsub_engine.specs.declared.session.Session.{Session}
-use Rattle.pubsub_engine.specs.Authored.{AreHistories, AreInOrder, AreLooksAt, watches_in_bytes}
+use Rattle.pubsub_engine.specs.Authored.{AreInOrder, AreLooksAt}
 use Rattle.pubsub_engine.specs.Holding.{IsSession, KeepsWholeLogs, logged_of, plan_of, tells_versions, ticks_of}
 use Rattle.pubsub_engine.specs.Standing.{Stands}
 use Rattle.pubsub_engine.specs.Living.{StandsAs, StandsIn}
 use Rattle.pubsub_engine.specs.Logs.{log_after, log_by, logs_told}
 use Rattle.pubsub_engine.specs.Ending.{HavePublished, HaveReceived}
+use Rattle.pubsub_engine.specs.Told.{TellsParts}
 use Rattle.pubsub_engine.specs.LifeEnds.{HasVersion, IsClosedBy, IsClosedIn, IsClosedWhole, IsToldBy, IsWriterEndBy, group_end_by, logs_in, read_group_end_by, reader_in}
 use Rattle.pubsub_engine.proofs.Lives.{as-stands}
 use Rattle.session_model.proofs.Ticks.{log-whole-in, logs-whole}
@@ -214,21 +213,6 @@ passes-count s is =
 pub few-sets : (s : Session) → IsSession s → length s.sets.metas.items ≤ 8
 few-sets s is = let count = (now-sets s.config.now s.sets is.sets).count in omega (arith, count, is.good.sound.few.datasets)
 
--- what the parts of a closed session are ensured to tell
-pub record TellsParts (s : Session) (dones : List Done) (sets : ℕ) (closed : Closed) : Type 0 where
-  pub count : sets ≡ length s.sets.metas.items
-  pub histories : AreHistories s.samples.passes dones sets closed.histories
-  pub groups : (most : ℕ) (p : Plan) (steps : List Step) (a : Account) → HavePublished s.config.now most p steps a s.round.tree s.round.publisher
-      → closed.groups ≡ map (group_end_by p steps a) (group_indexes p.config)
-  pub writers : (most : ℕ) (p : Plan) (steps : List Step) (a : Account) → HavePublished s.config.now most p steps a s.round.tree s.round.publisher
-      → AllZip (IsWriterEndBy (log_after most p.config a.deeds) p steps a) (writer_places p.config) closed.writers
-  pub read_groups : (p : Plan) (steps : List Step) (a : Account) → HaveReceived s.config.now p steps a s.round.tree s.round.subscriber
-      → closed.read_groups ≡ map (read_group_end_by p steps a) (read_group_indexes p.config)
-  pub readers : (most : ℕ) (p : Plan) (steps : List Step) (a : Account) → HavePublished s.config.now most p steps a s.round.tree s.round.publisher → HaveReceived s.config.now p steps a s.round.tree s.round.subscriber
-      → AllZip (IsToldBy (logs_told (tells_versions s) (log_after most p.config a.deeds)) p steps a) (reader_places p.config) closed.readers
-  pub watches : closed.watches ≡ watches_in_bytes dones
-  pub link : (steps : List Step) (a : Account) → AreSendsIn a.journal s.round.publisher.link → AreReceivesIn a.journal steps s.round.receiving → closed.link ≡ link_of a.journal steps
-
 published : (p : Plan) (steps : List Step) (a : Account) (s : Session) → IsSession s → StandsAs p steps a s → HavePublished s.config.now (logged_of s) p steps a s.round.tree s.round.publisher
 published p steps a s is stands = record {
   plan = sym (ap (λ (q : Plan). q.config) stands.plan);
@@ -247,9 +231,9 @@ received p steps a s stands = record {
 }
 
 -- by what became of it
-pub closed-by : (p : Plan) (steps : List Step) (a : Account) (s : Session) (dones : List Done) (sets : ℕ) (closed : Closed) → TellsParts s dones sets closed → IsSession s → StandsAs p steps a s
+pub closed-by : (p : Plan) (steps : List Step) (a : Account) (s : Session) (dones : List Done) (closed : Closed) → TellsParts s dones closed → IsSession s → StandsAs p steps a s
     → IsClosedBy (tells_versions s) (log_after (logged_of s) p.config a.deeds) p steps a closed
-closed-by p steps a s dones sets closed tells is stands = record {
+closed-by p steps a s dones closed tells is stands = record {
   groups = tells.groups (logged_of s) p steps a out;
   writers = tells.writers (logged_of s) p steps a out;
   read_groups = tells.read_groups p steps a come;
@@ -271,30 +255,30 @@ plain-writers logs p steps (place ∷ places) [] pairs = absurd pairs
 plain-writers logs p steps (place ∷ places) (end ∷ ends) pairs = (record { state = pairs.0.state; log = pairs.0.log }, plain-writers logs p steps places ends pairs.1)
 
 -- with the number of each held row
-pub are-told : (p : Plan) (steps : List Step) (a : Account) (s : Session) (dones : List Done) (sets : ℕ) (closed : Closed) → AllNumbered p a → TellsParts s dones sets closed → IsSession s
+pub are-told : (p : Plan) (steps : List Step) (a : Account) (s : Session) (dones : List Done) (closed : Closed) → AllNumbered p a → TellsParts s dones closed → IsSession s
     → StandsAs p steps a s → AreInOrder dones → TellsEndsIf (tells_versions s) p.config closed
-are-told p steps a s dones sets closed numbers tells is stands order =
-    let by = closed-by p steps a s dones sets closed tells is stands in
+are-told p steps a s dones closed numbers tells is stands order =
+    let by = closed-by p steps a s dones closed tells is stands in
     tells-readers (tells_versions s) (log_after (logged_of s) p.config a.deeds) p steps a closed numbers by.writers by.readers
     (subst (λ (l : List WatchEnd). IsNonDecreasing (map (λ end. end.thread) l)) (sym (tells.watches ∙ same-watches dones order)) (rising dones order))
 
 -- behind steps alone
-pub is-closed : ((setting : Setting) (events : List Event) → HaveTheirNumbers setting events) → (p : Plan) (steps : List Step) (s : Session) (dones : List Done) (sets : ℕ) (closed : Closed)
-    → TellsParts s dones sets closed → IsSession s → Stands p steps s → AreInOrder dones → IsClosedTelling (tells_versions s) (logs_cut (logged_of s) p steps) p steps closed
-is-closed numbers p steps s dones sets closed tells is stands order = record {
+pub is-closed : ((setting : Setting) (events : List Event) → HaveTheirNumbers setting events) → (p : Plan) (steps : List Step) (s : Session) (dones : List Done) (closed : Closed)
+    → TellsParts s dones closed → IsSession s → Stands p steps s → AreInOrder dones → IsClosedTelling (tells_versions s) (logs_cut (logged_of s) p steps) p steps closed
+is-closed numbers p steps s dones closed tells is stands order = record {
   groups = by.groups;
   writers = plain-writers logs p steps (writer_places p.config) closed.writers by.writers;
   read_groups = by.read_groups;
   readers = are-ends (logs_told (tells_versions s) logs) p steps closed.readers by.readers;
   link = by.link;
-  told = are-told p steps (account_of p steps) s dones sets closed (λ r. numbers (setting_of p.config r) (events p.config r steps)) tells is (as-stands p steps s stands) order;
+  told = are-told p steps (account_of p steps) s dones closed (λ r. numbers (setting_of p.config r) (events p.config r steps)) tells is (as-stands p steps s stands) order;
 }
   where
     logs : ℕ → ℕ → List (ℕ × ℕ)
     logs = log_after (logged_of s) p.config (deeds p steps)
 
     by : IsClosedBy (tells_versions s) (log_after (logged_of s) p.config (deeds p steps)) p steps (account_of p steps) closed
-    by = closed-by p steps (account_of p steps) s dones sets closed tells is (as-stands p steps s stands)
+    by = closed-by p steps (account_of p steps) s dones closed tells is (as-stands p steps s stands)
 
 pub versions-told : (s : Session) → KeepsWholeLogs s → tells_versions s ≡ true
 versions-told s keeps = let low : ticks_of s < logged_of s = keeps in grind (arith, nat_tests)
@@ -346,10 +330,10 @@ module _ (opened : (setting : Setting) → HaveNumbers setting (opening setting)
       subst (λ (group : PlainGroup). HaveNumbers (setting_of p.config r) group)
       (sym (rekeyed-value (reads_with (read_group_at p.config r) k) (map keys_in sets) ((account_in p before).readings r))) (numbers-in p before r)
 
-pub is-closed-of : (steps : List Step) (a : Account) (s : Session) (dones : List Done) (sets : ℕ) (closed : Closed) → TellsParts s dones sets closed → IsSession s → StandsAs (plan_of s) steps a s
+pub is-closed-of : (steps : List Step) (a : Account) (s : Session) (dones : List Done) (closed : Closed) → TellsParts s dones closed → IsSession s → StandsAs (plan_of s) steps a s
     → AreLooksAt (readers s.config.now) dones → IsClosedOf s.config.now closed
-is-closed-of steps a s dones sets closed tells is stands looks = record {
-  histories = tells.histories.count ∙ tells.count ∙ (now-sets s.config.now s.sets is.sets).count;
+is-closed-of steps a s dones closed tells is stands looks = record {
+  histories = tells.histories.count ∙ (now-sets s.config.now s.sets is.sets).count;
   groups = ap length by.groups ∙ length-map-range_with_len (group_end_by p steps a) 0 (length s.config.now.group);
   writers = pairs-length (IsWriterEndBy logs p steps a) (writer_places s.config.now) closed.writers by.writers ∙ writer-count s.config.now;
   read_groups = ap length by.read_groups ∙ length-map-range_with_len (read_group_end_by p steps a) 0 (length s.config.now.readgroup);
@@ -364,4 +348,4 @@ is-closed-of steps a s dones sets closed tells is stands looks = record {
     logs = log_after (logged_of s) s.config.now a.deeds
 
     by : IsClosedBy (tells_versions s) (log_after (logged_of s) s.config.now a.deeds) (plan_of s) steps a closed
-    by = closed-by (plan_of s) steps a s dones sets closed tells is stands
+    by = closed-by (plan_of s) steps a s dones closed tells is stands

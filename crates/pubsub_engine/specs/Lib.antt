@@ -6,3 +6,5 @@ pub mod Authored
 pub mod LifeEnds
 pub mod Ending
 pub mod Logs
+pub mod Opened
+pub mod Told

@@ -21,7 +21,8 @@ use Rattle.session_parts.specs.declared.publisher.Publisher.{Publisher}
 
 -- of the log that these deeds leave the writer with index w of group g, the first data frames
 abbrev pub log_after : ℕ → Config → List Deed → ℕ → ℕ → List (ℕ × ℕ)
-log_after most config deeds g w = take most (log_of (model_settings (settings_of (writer_at (group_at config g) w))) (writer_past w (group_past config g deeds)))
+log_after most config deeds g w =
+    take most (log_of (model_settings (settings_of (writer_at (group_at config g) w))) (writer_past w (group_past config g deeds)))
 
 -- where each writer of each group has this log, that of the writer with an id, empty where there is no such writer
 abbrev pub log_by : (ℕ → ℕ → List (ℕ × ℕ)) → Config → ℕ → List (ℕ × ℕ)

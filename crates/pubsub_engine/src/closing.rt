@@ -9,6 +9,7 @@ ghost use Rattle.pubsub_engine.specs.Holding.{IsSession, KeepsWholeLogs, logged_
 ghost use Rattle.pubsub_engine.specs.Standing.{Stands};
 ghost use Rattle.pubsub_engine.specs.Living.{StandsIn};
 ghost use Rattle.pubsub_engine.specs.LifeEnds.{IsClosedIn, IsClosedWhole};
+ghost use Rattle.pubsub_engine.specs.Told.{TellsParts};
 ghost use Rattle.pubsub_engine.specs.Authored.{AreHistories, AreInOrder, AreLooksAt, HasThreads, IsAuthored, byte_of, filled, watch_of, watches_in_bytes, watches_of};
 ghost use Rattle.app_threads.specs.Items.{versions_in};
 ghost use Rattle.ps_config.specs.Sound.{readers};
@@ -64,35 +65,40 @@ impl Session<'_> {
             → IsClosedOf (plan_of self.entry).config closed) }
     {
         each_held_row_has_its_number();
-        let sets = self.sets.metas.len() as u8;
-        let histories = histories(alloc, &self.samples, sets, dones)?;
-        let groups = group_ends(alloc, self.config, &self.round.tree, &self.round.publisher)?;
-        let writers = writer_ends(alloc, self.config, &self.round.tree, &self.round.publisher)?;
-        let read_groups = read_group_ends(
-            alloc,
-            self.config,
-            &self.round.tree,
-            &self.round.subscriber,
-        )?;
-        let readers = reader_ends(
-            alloc,
-            self.config,
-            &self.round.tree,
-            &self.round.publisher,
-            &self.round.subscriber,
-            self.left.tells_versions(),
-        )?;
-        let watches = watches(alloc, dones)?;
-        Ok(Closed {
-            histories: Parts::new(histories),
-            groups: Parts::new(groups),
-            writers: Parts::new(writers),
-            read_groups: Parts::new(read_groups),
-            readers: Parts::new(readers),
-            watches: Parts::new(watches),
-            link: link_end(&self.round.publisher, &self.round.receiving),
-        })
+        closed_of(alloc, &self, dones)
     }
+}
+
+/// What each part of a session tells.
+fn closed_of(alloc: Global, session: &Session<'_>, dones: &[Done]) -> Result<Closed, NoMemory>
+    requires { IsSession session.now }
+    ensures { IfOk result (TellsParts session.now dones.now) }
+{
+    let config = session.config;
+    let round = &session.round;
+    let sets = session.sets.metas.len() as u8;
+    let histories = histories(alloc, &session.samples, sets, dones)?;
+    let watches = watches(alloc, dones)?;
+    let groups = group_ends(alloc, config, &round.tree, &round.publisher)?;
+    let writers = writer_ends(alloc, config, &round.tree, &round.publisher)?;
+    let read_groups = read_group_ends(alloc, config, &round.tree, &round.subscriber)?;
+    let readers = reader_ends(
+        alloc,
+        config,
+        &round.tree,
+        &round.publisher,
+        &round.subscriber,
+        session.left.tells_versions(),
+    )?;
+    Ok(Closed {
+        histories: Parts::new(histories),
+        groups: Parts::new(groups),
+        writers: Parts::new(writers),
+        read_groups: Parts::new(read_groups),
+        readers: Parts::new(readers),
+        watches: Parts::new(watches),
+        link: link_end(&round.publisher, &round.receiving),
+    })
 }
 
 /// The histories of so many data sets.

@@ -12,6 +12,7 @@ ghost use Rattle.session_model.specs.Counts.{life_ticks};
 ghost use Rattle.session_model.specs.Keeping.{IsPlan};
 ghost use Rattle.pubsub_engine.specs.Holding.{AreAppends, AreTargetsOf, IsBankOf, IsSession, appends_left, full_of, keeper_of, left_of, opening_left, passes_of, plan_of};
 ghost use Rattle.pubsub_engine.specs.Standing.{Stands, sampled_by, samples_of};
+ghost use Rattle.pubsub_engine.specs.Opened.{AreNewCells, AreNewPasses, AreNewSets, AreWrites, IsNewSession, IsOpening};
 
 use crate::sampling::Samples;
 use crate::session::{Left, Session};
@@ -20,11 +21,12 @@ use crate::size::Size;
 use crate::storing::Stores;
 use arrayvec::ArrayVec;
 use cell_bank::Bank;
+use dataset_meta::Meta;
 use ps_config::{Config, ReaderPart};
 use session_parts::Round;
 use std::alloc::Global;
 use std::sync::Wait;
-use target_cells::Targets;
+use target_cells::{Keeper, Targets};
 use ua_base::NoMemory;
 use version_cell::Passes;
 
@@ -79,42 +81,124 @@ impl<'c> Session<'c> {
         ensures looks { IfOk result (λ o. ArePassesOf o.targets.cells o.watches) }
     {
         let sets = Sets::new(alloc, config, size.appends.as_slice())?;
-        let (bank, passes, hands) = Bank::new(rt, alloc, &sets.full, size.writes.as_slice())?;
-        let turns = size.ticks + 1;
-        let readers = sets_read(config);
-        let (targets, keeper, watches) = Targets::new(
-            rt,
-            alloc,
-            config.dataset.as_slice(),
-            readers.as_slice(),
-            turns,
-        )?;
-        let samples = Samples::new(alloc, passes, sets.metas.len())?;
-        let round = Round::open(alloc, config, turns, size.logged)?;
-        let stores = Stores::new(alloc, keeper, readers.len())?;
-        let left = Left {
-            ticks: turns,
-            pumps: 0,
-            stores: turns,
-            logged: size.logged,
-            is_closed: false,
-        };
-        let session = Session {
-            config,
-            left,
-            sets,
-            samples,
-            round,
-            stores,
-        };
-        Ok(Opening {
-            session,
-            bank,
-            hands,
-            targets,
-            watches,
-        })
+        opening_with(rt, alloc, config, size, sets)
     }
+}
+
+/// The cells of a session's data sets and those of its readers, with all passes of both.
+#[derive(Drop)]
+struct Cells {
+    bank: Bank,
+    passes: Passes,
+    hands: Vec<Passes>,
+    targets: Targets,
+    keeper: Keeper,
+    watches: Passes,
+}
+
+/// A new session over its data sets, and new cells for it.
+fn opening_with<'c, R: Wait>(
+    rt: &R,
+    alloc: Global,
+    config: &'c Config,
+    size: &Size,
+    sets: Sets,
+) -> Result<Opening<'c>, NoMemory>
+    requires good { IsGood config.now }
+    requires ticks { size.now.ticks ≤ life_ticks }
+    requires writes { AreWrites config.now size.now.writes.items }
+    requires appends { AreAppends config.now config.now.dataset size.now.appends.items }
+    requires sets { AreNewSets config.now size.now.appends.items sets }
+    ensures { IfOk result (IsOpening config.now size.now) }
+{
+    let cells = new_cells(rt, alloc, config, size, &sets.full)?;
+    let Cells {
+        bank,
+        passes,
+        hands,
+        targets,
+        keeper,
+        watches,
+    } = cells;
+    let session = new_session(alloc, config, size, sets, passes, keeper)?;
+    Ok(Opening {
+        session,
+        bank,
+        hands,
+        targets,
+        watches,
+    })
+}
+
+/// Cells for data sets with all their fields, and one for each reader, which may be stored once at each tick.
+fn new_cells<R: Wait>(
+    rt: &R,
+    alloc: Global,
+    config: &Config,
+    size: &Size,
+    full: &[Meta],
+) -> Result<Cells, NoMemory>
+    requires good { IsGood config.now }
+    requires ticks { size.now.ticks ≤ life_ticks }
+    requires count { length size.now.writes.items ≡ length full.now }
+    requires writes { AreSmall size.now.writes.items }
+    ensures { IfOk result (AreNewCells config.now full.now size.now) }
+{
+    let (bank, passes, hands) = Bank::new(rt, alloc, full, size.writes.as_slice())?;
+    let readers = sets_read(config);
+    let (targets, keeper, watches) = Targets::new(
+        rt,
+        alloc,
+        config.dataset.as_slice(),
+        readers.as_slice(),
+        size.ticks + 1,
+    )?;
+    Ok(Cells {
+        bank,
+        passes,
+        hands,
+        targets,
+        keeper,
+        watches,
+    })
+}
+
+/// A session of these data sets before its first step, with new passes.
+fn new_session<'c>(
+    alloc: Global,
+    config: &'c Config,
+    size: &Size,
+    sets: Sets,
+    passes: Passes,
+    keeper: Keeper,
+) -> Result<Session<'c>, NoMemory>
+    requires good { IsGood config.now }
+    requires ticks { size.now.ticks ≤ life_ticks }
+    requires appends { AreAppends config.now config.now.dataset size.now.appends.items }
+    requires sets { AreNewSets config.now size.now.appends.items sets }
+    requires passes { AreNewPasses (length config.now.dataset) None passes }
+    requires keeper { AreNewPasses (length (readers config.now)) (Some 0) keeper }
+    ensures { IfOk result (IsNewSession config.now size.now passes keeper) }
+{
+    let turns = size.ticks + 1;
+    let samples = Samples::new(alloc, passes, sets.metas.len())?;
+    let stores = Stores::new(alloc, keeper, sets_read(config).len())?;
+    let round = Round::open(alloc, config, turns, size.logged)?;
+    let left = Left {
+        ticks: turns,
+        pumps: 0,
+        stores: turns,
+        logged: size.logged,
+        is_closed: false,
+    };
+    Ok(Session {
+        config,
+        left,
+        sets,
+        samples,
+        round,
+        stores,
+    })
 }
 
 /// The data set of each reader, over all read groups in order.

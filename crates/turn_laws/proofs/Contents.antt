@@ -33,7 +33,7 @@ use Rattle.writer_group.specs.Payloads.{carried_frame, meta_at, spelled_by, writ
 use Rattle.writer_group.specs.Turns.{GroupDeed, TurnInput, answer_by}
 use Rattle.group_laws.specs.TurnReading.{IsPartBy, IsPartIf, IsPartOf, frame_read}
 use Rattle.session_laws.specs.Plays.{IsAnswerBy}
-use Rattle.session_laws.proofs.HeldRows.Pieces.{own-major}
+use Rattle.session_laws.proofs.HeldRows.Pieces.{loud-of, of-err, of-read, own-major}
 use Rattle.session_laws.proofs.HeldRows.Sources.{AreSent, IsLaidOf, IsOfAnswer, chunks-are, whole-is}
 
 -- ---- what a writer sent
@@ -85,18 +85,6 @@ read-of : (writer : WriterPart) (meta now : MetaData) (answer : PlacedFrame) →
 read-of writer meta now (Whole place row) major = record { own = own-major writer.versions meta.major now.major major; number_is = refl; content_is = refl }
 read-of writer meta now (Change place patch) major = record { own = own-major writer.versions meta.major now.major major; number_is = refl; content_is = refl }
 read-of writer meta now (Alive next) major = record { own = own-major writer.versions meta.major now.major major; number_is = refl; content_is = refl }
-
-loud-of : (writer : WriterPart) (meta now : MetaData) (answer : PlacedFrame) → ¬ ((frame_cut meta (carried_frame writer now answer)).content ≡ frames.Alive) → is_silent answer ≡ false
-loud-of writer meta now (Whole place row) not_alive = refl
-loud-of writer meta now (Change place patch) not_alive = refl
-loud-of writer meta now (Alive next) not_alive = absurd (not_alive refl)
-
-of-read : {X F : Type 0} (P : X → Type 0) (read : Result X F) (x : X) → read ≡ Ok x → P x → OfRead P read
-of-read P read x e is = subst (OfRead P) (sym e) is
-
-of-err : {X F : Type 0} (P : X → Type 0) (read : Result X F) → IsErr read → OfRead P read
-of-err P (Ok x) e = absurd (cc)
-of-err P (Err fault) e = tt
 
 -- what the writer answers at the turn is sent so, and the bytes of a data frame's place are its message
 pub record IsSentBy (s : Sending) (group : GroupPart) (w : ℕ) (past : List GroupDeed) (input : TurnInput) (meta : MetaData) (token number : ℕ) : Type 0 where

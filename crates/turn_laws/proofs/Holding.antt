@@ -39,7 +39,7 @@ use Rattle.session_laws.specs.Below.{TurnLaws}
 use Rattle.session_model.proofs.Deeds.{refreshed-keeps}
 use Rattle.session_laws.specs.Pasts.{IsTurn, WasMade, answered_by, settings_at}
 use Rattle.session_laws.specs.Readers.{IsPartFor, Making}
-use Rattle.session_laws.proofs.HeldRows.Passing.{IsPassOf}
+use Rattle.session_laws.proofs.HeldRows.Passing.{IsPassOf, opened-pass}
 use Rattle.session_laws.proofs.Versions.Answering.{answer-now, answer-stays, bytes_if, refresh-same}
 use Rattle.turn_laws.specs.Sent.{NamesPlaces, given_on, sent_in}
 use Rattle.turn_laws.proofs.Contents.{AreSentPieces, IsSentBy, IsSentPiece, Sending, piece-sent, pieces-stay}
@@ -49,20 +49,6 @@ use Rattle.turn_laws.proofs.Places.{good-to, loud-to, next_of}
 use Rattle.turn_laws.proofs.Rings.{AreRingTurns, IsRingTurn, KnowsSender, KnowsSenders, sender-of, sender-there, setup-mode, with_rings}
 use Rattle.turn_laws.proofs.Rising.{given-has, given-keeps, spanned-at}
 use Rattle.turn_laws.proofs.Sharing.{RisenAt, own-risen}
-
--- ---- what is opened of a turn has the token in use, and the number behind those used before
-
-opened-pass : (layout : Layout) (e : Envelope) (s : SenderState) (index : ℕ) (payloads : List Payload) (k : ℕ) (opened : Opened) → slice_get (opened_from layout e (Some s) index payloads) k ≡ Some opened → IsPassOf s (index + k) opened.pass
-opened-pass layout e s index [] k opened at = absurd (cc)
-opened-pass layout e s index (payload ∷ payloads) zero opened at =
-    let mode = mode_of e.settings.security in
-    let same : opened_at layout e (Some s) index payload ≡ opened = cc in
-    let here : index ≡ index + 0 = omega arith in
-    subst (λ (n : ℕ). IsPassOf s n opened.pass) here
-    (subst (λ (o : Opened). IsPassOf s index o.pass) same (record { token = ap (λ k. k.token) (advanced-keys mode s (suc index)); number = advanced-used mode s (suc index) }))
-opened-pass layout e s index (payload ∷ payloads) (suc k) opened at =
-    let there : index + 1 + k ≡ index + suc k = omega arith in
-    subst (λ (n : ℕ). IsPassOf s n opened.pass) there (opened-pass layout e s (index + 1) payloads k opened at)
 
 -- ---- the bytes of a place
 

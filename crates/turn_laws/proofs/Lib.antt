@@ -9,7 +9,6 @@ pub mod Uses
 pub mod Parts
 pub mod Contents
 pub mod Holding
-pub mod OtherGroups
 pub mod Others
 pub mod Taken
 pub mod Signed

@@ -28,27 +28,12 @@ use Rattle.session_model.specs.Turns.{deeds_till}
 use Rattle.session_model.proofs.Deeds.{TickKeeps, next-till, tick-keeps}
 use Rattle.session_laws.specs.Fresh.{BeginWithKeys, IsAnsweredWhole, KeyedTurn, keyed_turn, keyed_turns, token_after}
 use Rattle.session_laws.specs.Pasts.{settings_at}
-use Rattle.session_laws.proofs.Versions.Anew.{same-writer}
+use Rattle.session_laws.proofs.Versions.Anew.{answers-of, fresh-is, same-writer}
 use Rattle.session_laws.proofs.Versions.Telling.{writer-index}
 use Rattle.session_laws.proofs.Versions.Tokens.{FreshLaw, fresh-where, rekey-fresh}
 use Rattle.turn_laws.specs.Anew.{IsRekeyedBy, answered_in, keyed_turns_in}
 
 -- ---- a refreshed writer's next turn is fresh
-
-fresh-is : (w : ℕ) (past : List GroupDeed) → is_refreshed w past ≡ true → is_fresh (writer_past w past) ≡ true
-fresh-is w [] e = refl
-fresh-is w (RefreshedWriter other ∷ before) e = on (other == w) (fresh-is w before) e
-  where
-    on : (b : Bool) → (is_refreshed w before ≡ true → is_fresh (writer_past w before) ≡ true) → (b || is_refreshed w before) ≡ true
-        → is_fresh (cons_option (if b then Some Refreshed else None) (writer_past w before)) ≡ true
-    on true rest e = refl
-    on false rest e = rest e
-fresh-is w (HadGroupTurn turn ∷ before) e = on (took_by w turn) (fresh-is w before) e
-  where
-    on : (o : Option WriterTurn) → (is_refreshed w before ≡ true → is_fresh (writer_past w before) ≡ true) → (is_none o && is_refreshed w before) ≡ true
-        → is_fresh (cons_option (option_map HadTurn o) (writer_past w before)) ≡ true
-    on None rest e = rest e
-    on (Some t) rest e = absurd (cc)
 
 key-fresh : (config : Config) (k g w : ℕ) (before : List Deed) (turn : WriterTurn) → is_refreshed w (group_past config g before) ≡ true → is_key (keyed_turn config k g w before turn).answered ≡ true
 key-fresh config k g w before turn e =
@@ -335,31 +320,6 @@ pub life-anew : (p : Plan) (k g w : ℕ) (life : List Lived) → (group_at p.con
 life-anew p k g w life keyed within = (all-begin p k g w keyed within (writer-index p.config g w within) life).begin
 
 -- ---- the turns are the writer's
-
-answers-of : (config : Config) (k g w : ℕ) (list : List Deed) → map (λ turn. turn.answered) (keyed_turns config k g w list) ≡ cadence (settings_at (group_at config g) w) (writer_past w (group_past config g list))
-answers-of config k g w [] = refl
-answers-of config k g w (RefreshedBelow component ∷ before) =
-    answers-of config k g w before
-    ∙ sym (same-writer (settings_at (group_at config g) w) w (is_writer_below component g) (group_past config g before) (writer_indexes (group_at config g)))
-answers-of config k g w (RefreshedSet set ∷ before) =
-    answers-of config k g w before
-    ∙ sym (same-writer (settings_at (group_at config g) w) w (is_writer_of (group_at config g) set) (group_past config g before) (writer_indexes (group_at config g)))
-answers-of config k g w (CameTo now ∷ before) = answers-of config k g w before
-answers-of config k g w (RenewedKeys keygroup sets ∷ before) = answers-of config k g w before
-answers-of config k g w (TookTurn other turn ∷ before) = on (answers-of config k g w before) (other == g) (took_by w turn) refl
-  where
-    s : Settings
-    s = settings_at (group_at config g) w
-
-    past : List GroupDeed
-    past = group_past config g before
-
-    on : map (λ turn. turn.answered) (keyed_turns config k g w before) ≡ cadence s (writer_past w past) → (b : Bool) (o : Option WriterTurn) → took_by w turn ≡ o
-        → map (λ turn. turn.answered) (cons_option (if b then option_map (keyed_turn config k g w before) o else None) (keyed_turns config k g w before)) ≡ cadence s (writer_past w (cons_if b (HadGroupTurn turn) past))
-    on rest false o e = rest
-    on rest true None e = rest ∙ sym (ap (λ (o : Option WriterTurn). cadence s (cons_option (option_map HadTurn o) (writer_past w past))) e)
-    on rest true (Some t) e =
-        ap (λ (l : List Answered). (keyed_turn config k g w before t).answered ∷ l) rest ∙ sym (ap (λ (o : Option WriterTurn). cadence s (cons_option (option_map HadTurn o) (writer_past w past))) e)
 
 pub life-answers : (p : Plan) (k g w : ℕ) (life : List Lived) → map (λ turn. turn.answered) (keyed_turns_in p k g w life) ≡ answered_in p g w life
 life-answers p k g w life = answers-of p.config k g w (account_in p life).deeds

@@ -24,13 +24,12 @@ use Rattle.writer_group.specs.Parts.{group_at, no_group}
 use Rattle.writer_group.specs.Payloads.{Spelled, payloads_of, writer_at}
 use Rattle.writer_group.specs.Turns.{GroupDeed, GroupTurn, HadGroupTurn, RefreshedWriter, TurnInput, frames_in}
 use Rattle.group_laws.specs.Matching.{IsMatchedTo, ReadsWriter}
-use Rattle.group_laws.proofs.OtherGroups.{IsOfTurn}
+use Rattle.group_laws.proofs.OtherGroups.{IsOfTurn, fixed-refused, not-named, others-pieces, turn-of}
 use Rattle.session_model.specs.Deeds.{Deed, RefreshedBelow, RefreshedSet, CameTo, TookTurn, RenewedKeys, group_past, is_writer_below, is_writer_of, writer_indexes}
 use Rattle.session_model.proofs.Deeds.{refreshed-keeps}
 use Rattle.session_laws.specs.Below.{TurnLaws}
 use Rattle.session_laws.specs.Pasts.{IsMade, WasMade}
 use Rattle.session_laws.proofs.Versions.Distinct.{IsAt, at-sound, ids-differ, writer-id, writers-differ}
-use Rattle.turn_laws.proofs.OtherGroups.{fixed-refused, not-named, others-pieces, turn-of}
 use Rattle.turn_laws.proofs.Rings.{AreRingTurns, AreWrittenPast, IsWrittenTurn}
 
 -- ---- the turns of each group

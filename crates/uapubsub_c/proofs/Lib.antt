@@ -3,5 +3,6 @@ pub mod Lines
 pub mod LooseValues
 pub mod Naming
 pub mod Opening
+pub mod Showing
 pub mod SlotValues
 pub mod Telling

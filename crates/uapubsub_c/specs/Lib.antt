@@ -1,5 +1,6 @@
 pub mod Aging
 pub mod Answers
+pub mod Beginning
 pub mod Getting
 pub mod Handles
 pub mod Holding
@@ -9,10 +10,14 @@ pub mod Lines
 pub mod Listing
 pub mod Nexts
 pub mod Noticing
-pub mod Receiving
 pub mod Numbers
 pub mod Opening
 pub mod Owning
+pub mod Places
 pub mod Reading
+pub mod Receiving
 pub mod Setting
+pub mod States
+pub mod Storing
 pub mod Switching
+pub mod Taking

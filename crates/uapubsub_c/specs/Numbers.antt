@@ -13,7 +13,7 @@ use Rattle.reader_group.specs.declared.notice.PartFault.TheVariants as parts
 use Rattle.reader_group.specs.declared.refusal.Refusal.{Refusal}
 use Rattle.reader_group.specs.declared.refusal.Refusal.TheVariants as refusals
 use Rattle.uapubsub_c.specs.declared.status.Status.{Status}
-use Rattle.uapubsub_c.specs.declared.status.Status.TheVariants.{BadText, Closed, Datagram, EarlierToken, Index, ManyKeys, Memory, Misfit, NoKind, NoRing, Nothing, NumbersAgain, Opened, OtherSide, Refused, Room, Spent, Stale}
+use Rattle.uapubsub_c.specs.declared.status.Status.TheVariants.{BadText, Begun, Closed, Damaged, Datagram, EarlierToken, Index, LaterToken, ManyKeys, Memory, Misfit, NoKind, NoRing, Nothing, NumbersAgain, Opened, OtherConfig, OtherSide, Refused, Room, Spent, Stale, Unstored}
 
 -- why a reader holds no row
 abbrev pub why_number : Why → ℕ
@@ -90,6 +90,11 @@ status_number EarlierToken = 15
 status_number NumbersAgain = 16
 status_number NoKind = 17
 status_number Stale = 18
+status_number Unstored = 19
+status_number Damaged = 20
+status_number OtherConfig = 21
+status_number LaterToken = 22
+status_number Begun = 23
 status_number (Datagram refusal) = refusal_number refusal
 
 -- an answer: UAP_OK is 0

@@ -37,7 +37,7 @@ fn judge(alloc: Global, text: &[u8], error: &mut [u8], written: &mut usize) -> R
 }
 
 /// Reads the configuration that the text is, and lets it go.
-fn read(alloc: Global, text: &[u8]) -> Result<(), ConfigEnd>
+pub(crate) fn read(alloc: Global, text: &[u8]) -> Result<(), ConfigEnd>
     ensures ok { IfOk result (λ _. IsOk (configuration text.now)) }
     ensures refused { IfErr result (IsEnd (configuration text.now)) }
 {

@@ -3,6 +3,7 @@
 #![tactic(auto)]
 
 mod aging;
+mod beginning;
 mod checking;
 mod closing;
 mod getting;
@@ -18,16 +19,21 @@ mod listing;
 mod loose;
 mod noticing;
 mod owning;
+mod placing;
 mod publishing;
 mod receiving;
 mod refusals;
 mod setting;
 mod slot;
+mod states;
 mod status;
+mod storing;
 mod subscribing;
 mod switching;
+mod taking;
 
 pub use aging::{uapubsub_reader_age, uapubsub_reader_is_fresh, uapubsub_subscriber_due};
+pub use beginning::uapubsub_writer_begin_at;
 pub use checking::uapubsub_config_check;
 pub use closing::uapubsub_close;
 pub use getting::{
@@ -47,6 +53,7 @@ pub use owning::{
     uapubsub_group_may_turn, uapubsub_own_bytes, uapubsub_own_field_status, uapubsub_own_guid,
     uapubsub_own_text, uapubsub_own_word, uapubsub_publisher_due, uapubsub_publisher_group,
 };
+pub use placing::{PlaceWords, uapubsub_config_place};
 pub use publishing::{
     uapubsub_publisher_next, uapubsub_publisher_open, uapubsub_publisher_renew,
     uapubsub_publisher_resume, uapubsub_publisher_resume_with, uapubsub_publisher_standing,
@@ -58,7 +65,12 @@ pub use setting::{
     uapubsub_set_bytes, uapubsub_set_field_status, uapubsub_set_guid, uapubsub_set_text,
     uapubsub_set_word,
 };
+pub use states::{uapubsub_state_message, uapubsub_state_token, uapubsub_state_used};
 pub use status::Status;
+pub use storing::{
+    uapubsub_publisher_must_store, uapubsub_publisher_restore, uapubsub_publisher_save,
+    uapubsub_publisher_stored,
+};
 pub use subscribing::{
     TakenWords, uapubsub_reader_number, uapubsub_reader_why, uapubsub_subscriber_datagram,
     uapubsub_subscriber_expire, uapubsub_subscriber_open, uapubsub_subscriber_renew,
@@ -67,3 +79,4 @@ pub use switching::{
     uapubsub_reader_disable, uapubsub_reader_enable, uapubsub_writer_disable,
     uapubsub_writer_enable,
 };
+pub use taking::{AnswerWords, TakingsWords, uapubsub_subscriber_take};

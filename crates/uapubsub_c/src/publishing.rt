@@ -99,6 +99,9 @@ fn next(
         Next::Nothing => Err(Status::Nothing),
         Next::Spent => Err(Status::Spent),
         Next::Datagram => {
+            if !publisher.may_hand_over() {
+                return Err(Status::Unstored);
+            }
             let datagram = publisher.datagram();
             if datagram.len() > buffer.len() {
                 *count = datagram.len();

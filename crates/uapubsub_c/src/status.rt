@@ -42,6 +42,16 @@ pub enum Status {
     NoKind,
     /// The row that is held is older than that.
     Stale,
+    /// A datagram waits until its number is in store.
+    Unstored,
+    /// The bytes aren't those of a state that was saved.
+    Damaged,
+    /// The state is of another configuration.
+    OtherConfig,
+    /// The state has a later token of a key group than its key sets have at the moment.
+    LaterToken,
+    /// The group had a turn before.
+    Begun,
     /// The datagram is refused.
     Datagram(Refusal),
 }
@@ -69,6 +79,11 @@ impl Status {
             Status::NumbersAgain => 16,
             Status::NoKind => 17,
             Status::Stale => 18,
+            Status::Unstored => 19,
+            Status::Damaged => 20,
+            Status::OtherConfig => 21,
+            Status::LaterToken => 22,
+            Status::Begun => 23,
             Status::Datagram(refusal) => refusal_number(&refusal),
         }
     }

@@ -1,5 +1,5 @@
 -- One of a group's writers begins anew, at another number.
-use Rattle.std.proofs.Common.{◌≡◌, ◌≢◌, ℕ, ◌<◌, ◌≤◌, List, [], length, get_or, set, map, ◌-◌, refl, sym, ap, subst, ◌∙◌, arith, inl, inr, true, All}
+use Rattle.std.proofs.Common.{◌≡◌, ◌≢◌, ℕ, ◌<◌, ◌≤◌, List, [], length, get_or, set, ◌-◌, refl, sym, ap, subst, ◌∙◌, arith, inl, inr, All}
 use Rattle.std.specs.Prelude.{◌⊎◌, vec_len}
 use Rattle.std.specs.List.{HoldsAt}
 use Rattle.std.proofs.lemmas.Bool.{cases_eq}
@@ -18,14 +18,13 @@ use Rattle.ps_config.specs.declared.parts.WriterPart.{WriterPart}
 use Rattle.ps_config.specs.Beginning.{config_beginning, group_beginning, writer_beginning}
 use Rattle.ps_config.specs.FixedSound.{writer_slot}
 use Rattle.ps_config.specs.Headers.{publisher_value, signature_len}
-use Rattle.ps_config.specs.Rooms.{header_settings, is_fixed}
+use Rattle.ps_config.specs.Rooms.{header_settings}
 use Rattle.ps_config.proofs.Beginning.{changed-here, changed-length, changed-map, changed-other}
 use Rattle.writer_group.specs.declared.group.Group.{Group}
 use Rattle.writer_group.specs.declared.leads.Leads.{Leads}
 use Rattle.writer_group.specs.Answering.{HasLived}
 use Rattle.writer_group.specs.Leads.{AreLeadsOf}
-use Rattle.writer_group.specs.Payloads.{fixed_header, no_writer, slots_of, writer_at}
-use Rattle.writer_group.specs.Setup.{AreSlotsOf}
+use Rattle.writer_group.specs.Payloads.{fixed_header, no_writer, writer_at}
 use Rattle.writer_group.specs.Standing.{AreSameBut, GoesOnBegun, IsGroup, IsMadeAt, IsMadeBeginning, IsMadeFor, KeepsTo, MayGoOn, index_of, metas_for}
 use Rattle.writer_group.specs.Turns.{GroupDeed, settings_of, writer_past}
 

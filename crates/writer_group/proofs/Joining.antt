@@ -95,36 +95,38 @@ joined-fewer e sender cargo loads index d within =
     ap (λ (l : List (List ℕ)). length (joined l)) (made-more e sender cargo loads index d within) ∙ ap length (joined-push before next) ∙ length-append (joined before) next in
     omega (arith, whole, more)
 
--- ---- the datagrams that stand in the buffer
+-- ---- the datagrams that stand in their bytes
 
 abbrev range_in : List ℕ → Range → List ℕ
-range_in bytes range = slice_range bytes (32768 + range.start) (32768 + range.end)
+range_in bytes range = slice_range bytes range.start range.end
 
-here-in : (before datagram after : List ℕ) (start : ℕ) → length before ≡ 32768 + start
-    → slice_range (before ++ (datagram ++ after)) (32768 + start) (32768 + (start + length datagram)) ≡ datagram
+here-in : (before datagram after : List ℕ) (start : ℕ) → length before ≡ start
+    → slice_range (before ++ (datagram ++ after)) start (start + length datagram) ≡ datagram
 here-in before datagram after start long =
-    let size : 32768 + (start + length datagram) - (32768 + start) ≡ length datagram = omega arith in
-    ap (λ (l : List ℕ). take (32768 + (start + length datagram) - (32768 + start)) l) (drop_at before (datagram ++ after) (32768 + start) long)
+    let size : start + length datagram - start ≡ length datagram = omega arith in
+    ap (λ (l : List ℕ). take (start + length datagram - start) l) (drop_at before (datagram ++ after) start long)
     ∙ ap (λ (n : ℕ). take n (datagram ++ after)) size ∙ take_at datagram after (length datagram) refl
 
-standing : (before : List ℕ) (datagrams : List (List ℕ)) (after : List ℕ) (start : ℕ) → length before ≡ 32768 + start
+standing : (before : List ℕ) (datagrams : List (List ℕ)) (after : List ℕ) (start : ℕ) → length before ≡ start
     → map (range_in (before ++ (joined datagrams ++ after))) (ranges_of start datagrams) ≡ datagrams
 standing before [] after start long = refl
 standing before (datagram ∷ datagrams) after start long =
     let rest = joined datagrams ++ after in
-    let bytes : before ++ (joined (datagram ∷ datagrams) ++ after) ≡ before ++ (datagram ++ rest) = ap (λ (l : List ℕ). before ++ l) (append_assoc datagram (joined datagrams) after) in
-    let first : range_in (before ++ (joined (datagram ∷ datagrams) ++ after)) (record { start = start; end = start + length datagram }) ≡ datagram =
-    ap (λ (l : List ℕ). slice_range l (32768 + start) (32768 + (start + length datagram))) bytes ∙ here-in before datagram rest start long in
-    let moved : before ++ (joined (datagram ∷ datagrams) ++ after) ≡ (before ++ datagram) ++ rest = bytes ∙ sym (append_assoc before datagram rest) in
-    let far : length (before ++ datagram) ≡ 32768 + (start + length datagram) = omega (arith, length-append before datagram) in
-    let others : map (range_in (before ++ (joined (datagram ∷ datagrams) ++ after))) (ranges_of (start + length datagram) datagrams) ≡ datagrams =
-    ap (λ (l : List ℕ). map (range_in l) (ranges_of (start + length datagram) datagrams)) moved ∙ standing (before ++ datagram) datagrams after (start + length datagram) far in
-    ap (λ (x : List ℕ). x ∷ map (range_in (before ++ (joined (datagram ∷ datagrams) ++ after))) (ranges_of (start + length datagram) datagrams)) first
+    let all = before ++ (joined (datagram ∷ datagrams) ++ after) in
+    let next = start + length datagram in
+    let bytes : all ≡ before ++ (datagram ++ rest) = ap (λ (l : List ℕ). before ++ l) (append_assoc datagram (joined datagrams) after) in
+    let first : range_in all (record { start = start; end = next }) ≡ datagram =
+    ap (λ (l : List ℕ). slice_range l start next) bytes ∙ here-in before datagram rest start long in
+    let moved : all ≡ (before ++ datagram) ++ rest = bytes ∙ sym (append_assoc before datagram rest) in
+    let far : length (before ++ datagram) ≡ next = omega (arith, length-append before datagram) in
+    let others : map (range_in all) (ranges_of next datagrams) ≡ datagrams =
+    ap (λ (l : List ℕ). map (range_in l) (ranges_of next datagrams)) moved ∙ standing (before ++ datagram) datagrams after next far in
+    ap (λ (x : List ℕ). x ∷ map (range_in all) (ranges_of next datagrams)) first
     ∙ ap (λ (l : List (List ℕ)). datagram ∷ l) others
 
-pub datagrams-stand : (front free : List ℕ) (datagrams : List (List ℕ)) → length front ≡ 32768
-    → map (range_in (front ++ ([] ++ joined datagrams ++ drop (0 + length (joined datagrams)) free))) (ranges_of 0 datagrams) ≡ datagrams
-datagrams-stand front free datagrams long = standing front datagrams (drop (0 + length (joined datagrams)) free) 0 (omega arith)
+pub datagrams-stand : (free : List ℕ) (datagrams : List (List ℕ))
+    → map (range_in ([] ++ joined datagrams ++ drop (0 + length (joined datagrams)) free)) (ranges_of 0 datagrams) ≡ datagrams
+datagrams-stand free datagrams = standing [] datagrams (drop (0 + length (joined datagrams)) free) 0 refl
 
 -- each stands within them
 pub record IsRange (end : ℕ) (range : Range) : Type 0 where

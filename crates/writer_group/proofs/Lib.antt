@@ -4,7 +4,6 @@ pub mod Cutting
 pub mod DatagramSizes
 pub mod FixedTurns
 pub mod FreshWriters
-pub mod FrontFrames
 pub mod HeaderLengths
 pub mod Joining
 pub mod KeptWriters
@@ -14,6 +13,7 @@ pub mod LoadBytes
 pub mod LoadHeaders
 pub mod LoadPayloads
 pub mod NewGroups
+pub mod Needs
 pub mod NextAnswers
 pub mod LongestDatagrams
 pub mod LongestTurns

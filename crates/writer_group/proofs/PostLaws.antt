@@ -1,8 +1,8 @@
--- The datagrams of a turn in the buffer of its group.
-use Rattle.std.proofs.Common.{◌≡◌, ℕ, ◌≤◌, true, List, [], ◌∷◌, ◌++◌, length, map, take, drop, refl, sym, ap, subst, ◌∙◌, arith, All, Option, Vec}
-use Rattle.std.specs.Prelude.{◌==◌, vec_capacity}
+-- The datagrams of a turn in their bytes.
+use Rattle.std.proofs.Common.{◌≡◌, ℕ, ◌≤◌, true, List, [], ◌∷◌, length, map, refl, sym, ap, subst, ◌∙◌, arith, All, Option, Vec}
+use Rattle.std.specs.Prelude.{◌==◌, vec_capacity, vec_len}
 use Rattle.std.proofs.lemmas.Bool.Decides.{nat_tests}
-use Rattle.std.proofs.lemmas.List.{length-take, length-take-le, take-append-drop, with_items_is}
+use Rattle.std.proofs.lemmas.List.{with_items_is}
 use Rattle.std.specs.Vec.{with_items}
 use Rattle.std.specs.declared.alloc.Global.{Global}
 use Rattle.std.proofs.lemmas.List.Elements.{All-weaker}
@@ -34,17 +34,19 @@ use Rattle.writer_group.specs.Sealing.{AreWritten, Envelope, advanced_by, envelo
 use Rattle.writer_group.specs.Standing.{IsWithinBuffer, datagram_in}
 use Rattle.writer_group.proofs.Joining.{IsRange, datagrams-stand, ranges-within}
 
-pub buffer-stands : (bytes front free : List ℕ) (ranges : List Range) (made : List (List ℕ)) → bytes ≡ front ++ laid free 0 (joined made) → ranges ≡ ranges_of 0 made → length front ≡ 32768
-    → map (datagram_in bytes) ranges ≡ made
-buffer-stands bytes front free ranges made is are long =
+pub buffer-stands : (bytes free : List ℕ) (ranges : List Range) (made : List (List ℕ)) → bytes ≡ laid free 0 (joined made)
+    → ranges ≡ ranges_of 0 made → map (datagram_in bytes) ranges ≡ made
+buffer-stands bytes free ranges made is are =
     ap (λ (l : List ℕ). map (datagram_in l) ranges) is
-    ∙ ap (map (datagram_in (front ++ laid free 0 (joined made)))) are
-    ∙ datagrams-stand front free made long
+    ∙ ap (map (datagram_in (laid free 0 (joined made)))) are
+    ∙ datagrams-stand free made
 
-pub buffer-within : (ranges : List Range) (made : List (List ℕ)) → ranges ≡ ranges_of 0 made → length (joined made) ≤ 229376 → All IsWithinBuffer ranges
-buffer-within ranges made are room =
-    subst (All IsWithinBuffer) (sym are)
-    (All-weaker (IsRange 229376) IsWithinBuffer (λ (range : Range) (is : IsRange 229376 range). record { rising = is.rising; within = omega (arith, is.within) }) (ranges_of 0 made) (ranges-within 229376 made room))
+pub buffer-within : (end : ℕ) (ranges : List Range) (made : List (List ℕ)) → ranges ≡ ranges_of 0 made → length (joined made) ≤ end
+    → All (IsWithinBuffer end) ranges
+buffer-within end ranges made are room =
+    subst (All (IsWithinBuffer end)) (sym are)
+    (All-weaker (IsRange end) (IsWithinBuffer end) (λ (range : Range) (is : IsRange end range). record { rising = is.rising; within = is.within })
+    (ranges_of 0 made) (ranges-within end made room))
 
 -- ---- the parts of a turn, made from frames that stand in these bytes
 
@@ -112,108 +114,114 @@ written-by config part sender group front bytes frames room loads parts are writ
     subst (λ (value : CargoValue). AreWritten (envelope_with config part group.made) sender 0 (map (payload_in value) loads)) (cargo-is config part group front bytes frames room parts are)
     (subst (λ (e : Envelope). AreWritten e sender 0 (map (payload_in (cargo_by group bytes frames room)) loads)) are.envelope written)
 
--- behind what stands in front
-laid-by : (config : Config) (part : GroupPart) (sender : Option SenderState) (group : Group) (front bytes free rest after : List ℕ) (frames : Frames) (room : ℕ) (loads : List Load) (parts : HeaderParts)
-    → AreParts config part group front bytes room parts → free ≡ rest → after ≡ laid free 0 (joined (made_of (envelope_in parts) sender (cargo_by group bytes frames room) loads))
-    → bytes ++ after ≡ front ++ laid rest 0 (joined (made_from config part sender group front frames loads))
-laid-by config part sender group front bytes free rest after frames room loads parts are behind is =
-    ap (λ (l : List ℕ). bytes ++ l) (
-    is ∙ ap (λ (l : List ℕ). laid l 0 (joined (made_of (envelope_in parts) sender (cargo_by group bytes frames room) loads))) behind
-    ∙ ap (λ (l : List (List ℕ)). laid rest 0 (joined l)) (made-by config part sender group front bytes frames room loads parts are)
+laid-by : (config : Config) (part : GroupPart) (sender : Option SenderState) (group : Group) (front bytes free after : List ℕ) (frames : Frames) (room : ℕ)
+    (loads : List Load) (parts : HeaderParts) → AreParts config part group front bytes room parts
+    → after ≡ laid free 0 (joined (made_of (envelope_in parts) sender (cargo_by group bytes frames room) loads))
+    → after ≡ laid free 0 (joined (made_from config part sender group front frames loads))
+laid-by config part sender group front bytes free after frames room loads parts are is =
+    is ∙ ap (λ (l : List (List ℕ)). laid free 0 (joined l)) (made-by config part sender group front bytes frames room loads parts are)
+
+pub made-within : (config : Config) (part : GroupPart) (sender : Option SenderState) (group : Group) (front bytes free : List ℕ) (frames : Frames) (room : ℕ)
+    (loads : List Load) (parts : HeaderParts) → AreParts config part group front bytes room parts → MayFill config part sender group front free frames loads
+    → length (joined (made_of (envelope_in parts) sender (cargo_by group bytes frames room) loads)) ≤ length free
+made-within config part sender group front bytes free frames room loads parts are may =
+    omega (
+      arith,
+      ap (λ (l : List (List ℕ)). length (joined l)) (made-by config part sender group front bytes frames room loads parts are),
+      may.room,
     )
-    ∙ ap (λ (l : List ℕ). l ++ laid rest 0 (joined (made_from config part sender group front frames loads))) are.bytes_are
 
-pub made-within : (config : Config) (part : GroupPart) (sender : Option SenderState) (group : Group) (buffer bytes : List ℕ) (frames : Frames) (room : ℕ) (loads : List Load) (parts : HeaderParts)
-    → AreParts config part group (take 32768 buffer) bytes room parts → MayFill config part sender group buffer frames loads
-    → length (joined (made_of (envelope_in parts) sender (cargo_by group bytes frames room) loads)) ≤ 229376
-made-within config part sender group buffer bytes frames room loads parts are may =
-    omega (arith, ap (λ (l : List (List ℕ)). length (joined l)) (made-by config part sender group (take 32768 buffer) bytes frames room loads parts are), may.room)
-
-pub is-filled : (config : Config) (part : GroupPart) (sender : Option SenderState) (group : Group) (buffer bytes free after : List ℕ) (frames : Frames) (room : ℕ) (loads : List Load) (ranges : List Range)
-    (parts : HeaderParts) → AreParts config part group (take 32768 buffer) bytes room parts → free ≡ drop 32768 buffer
+pub is-filled : (config : Config) (part : GroupPart) (sender : Option SenderState) (group : Group) (front bytes free after : List ℕ) (frames : Frames) (room : ℕ)
+    (loads : List Load) (ranges : List Range) (parts : HeaderParts) → AreParts config part group front bytes room parts
     → after ≡ laid free 0 (joined (made_of (envelope_in parts) sender (cargo_by group bytes frames room) loads))
     → ranges ≡ ranges_of 0 (made_of (envelope_in parts) sender (cargo_by group bytes frames room) loads)
     → AreWritten (envelope_in parts) sender 0 (map (payload_in (cargo_by group bytes frames room)) loads)
-    → IsFilled config part sender group buffer frames loads (bytes ++ after) ranges
-is-filled config part sender group buffer bytes free after frames room loads ranges parts are behind laid_is ranges_are written =
+    → IsFilled config part sender group front free frames loads after ranges
+is-filled config part sender group front bytes free after frames room loads ranges parts are laid_is ranges_are written =
     record {
-      laid_is = laid-by config part sender group (take 32768 buffer) bytes free (drop 32768 buffer) after frames room loads parts are behind laid_is;
-      ranges_are = ranges_are ∙ ap (ranges_of 0) (made-by config part sender group (take 32768 buffer) bytes frames room loads parts are);
-      written = written-by config part sender group (take 32768 buffer) bytes frames room loads parts are written;
+      laid_is = laid-by config part sender group front bytes free after frames room loads parts are laid_is;
+      ranges_are = ranges_are ∙ ap (ranges_of 0) (made-by config part sender group front bytes frames room loads parts are);
+      written = written-by config part sender group front bytes frames room loads parts are written;
     }
 
 -- without loads nothing is filled, and no front is given
-pub nothing-filled : (config : Config) (part : GroupPart) (sender : Option SenderState) (group : Group) (buffer : List ℕ) (frames : Frames) (loads : List Load) (ranges : List Range)
-    → ranges ≡ [] → (length loads == 0) ≡ true → IsFilled config part sender group buffer frames loads buffer ranges
-nothing-filled config part sender group buffer frames [] ranges empty none = record { laid_is = sym (take-append-drop 32768 buffer); ranges_are = empty; written = tt }
-nothing-filled config part sender group buffer frames (load ∷ loads) ranges empty none = absurd (grind (arith, nat_tests))
+pub nothing-filled : (config : Config) (part : GroupPart) (sender : Option SenderState) (group : Group) (bytes free : List ℕ) (frames : Frames) (loads : List Load)
+    (ranges : List Range) → ranges ≡ [] → (length loads == 0) ≡ true → IsFilled config part sender group bytes free frames loads free ranges
+nothing-filled config part sender group bytes free frames [] ranges empty none = record { laid_is = refl; ranges_are = empty; written = tt }
+nothing-filled config part sender group bytes free frames (load ∷ loads) ranges empty none = absurd (grind (arith, nat_tests))
 
 pub never-advanced : (mode : Mode) (s : SenderState) (loads : List Load) → (length loads == 0) ≡ true → s ≡ advanced_by mode s (length loads)
 never-advanced mode s [] none = refl
 never-advanced mode s (load ∷ loads) none = absurd (grind (arith, nat_tests))
 
--- ---- the buffer
+-- ---- the bytes of a turn
 
-may-make : (config : Config) (part : GroupPart) (sender : Option SenderState) (group : Group) (out : Datagrams) (bytes : List ℕ) (loads : List Load) → MayMake config part sender group out
-    → bytes ≡ take 32768 out.bytes.items → loads ≡ out.loads.items → MayMakeOf config part sender group bytes out.frames loads
-may-make config part sender group out bytes loads make front same =
-    record {
-      made_for = make.made_for;
-      loads_are = subst (λ (l : List Load). All (IsLoad (cargo_from config part group bytes out.frames)) l) (sym same)
-          (subst (λ (b : List ℕ). All (IsLoad (cargo_from config part group b out.frames)) out.loads.items) (sym front) make.loads_are);
-      few = omega (arith, ap length same, make.few);
-      spelled = subst (λ (b : List ℕ). AreSpelledIn b out.frames) (sym front) make.spelled;
-      small = omega (arith, ap length front, length-take 32768 out.bytes.items);
-      frames_few = make.frames_few;
-      sender_is = make.sender_is;
-    }
+-- what is lent of them is what they are
+pub record AreLent (out : Datagrams) (bytes free : List ℕ) (loads : List Load) : Type 0 where
+  pub bytes_are : bytes ≡ out.spelled.items
+  pub free_is : free ≡ out.bytes.items
+  pub loads_are : loads ≡ out.loads.items
 
-made-same : (config : Config) (part : GroupPart) (sender : Option SenderState) (group : Group) (out : Datagrams) (bytes : List ℕ) (loads : List Load)
-    → bytes ≡ take 32768 out.bytes.items → loads ≡ out.loads.items → made_from config part sender group bytes out.frames loads ≡ made_with config part sender group out
-made-same config part sender group out bytes loads front same =
-    ap (λ (b : List ℕ). made_from config part sender group b out.frames loads) front
-    ∙ ap (λ (l : List Load). made_from config part sender group (take 32768 out.bytes.items) out.frames l) same
+may-make : (config : Config) (part : GroupPart) (sender : Option SenderState) (group : Group) (out : Datagrams) (bytes free : List ℕ) (loads : List Load)
+    → MayMake config part sender group out → AreLent out bytes free loads → MayMakeOf config part sender group bytes out.frames loads
+may-make config part sender group out bytes free loads make lent =
+    subst (λ (l : List Load). MayMakeOf config part sender group bytes out.frames l) (sym lent.loads_are)
+    (subst (λ (b : List ℕ). MayMakeOf config part sender group b out.frames out.loads.items) (sym lent.bytes_are) make.may)
 
-written-same : (config : Config) (part : GroupPart) (sender : Option SenderState) (group : Group) (out : Datagrams) (bytes : List ℕ) (loads : List Load)
-    → bytes ≡ take 32768 out.bytes.items → loads ≡ out.loads.items
+made-same : (config : Config) (part : GroupPart) (sender : Option SenderState) (group : Group) (out : Datagrams) (bytes free : List ℕ) (loads : List Load)
+    → AreLent out bytes free loads → made_from config part sender group bytes out.frames loads ≡ made_with config part sender group out
+made-same config part sender group out bytes free loads lent =
+    ap (λ (b : List ℕ). made_from config part sender group b out.frames loads) lent.bytes_are
+    ∙ ap (λ (l : List Load). made_from config part sender group out.spelled.items out.frames l) lent.loads_are
+
+written-same : (config : Config) (part : GroupPart) (sender : Option SenderState) (group : Group) (out : Datagrams) (bytes free : List ℕ) (loads : List Load)
+    → AreLent out bytes free loads
     → AreWritten (envelope_with config part group.made) sender 0 (map (payload_in (cargo_from config part group bytes out.frames)) loads)
     → AreWritten (envelope_with config part group.made) sender 0 (map (payload_in (cargo_with config part group out)) out.loads.items)
-written-same config part sender group out bytes loads front same written =
-    subst (λ (l : List Load). AreWritten (envelope_with config part group.made) sender 0 (map (payload_in (cargo_with config part group out)) l)) same
-    (subst (λ (b : List ℕ). AreWritten (envelope_with config part group.made) sender 0 (map (payload_in (cargo_from config part group b out.frames)) loads)) front written)
+written-same config part sender group out bytes free loads lent written =
+    let e = envelope_with config part group.made in
+    subst (λ (l : List Load). AreWritten e sender 0 (map (payload_in (cargo_with config part group out)) l)) lent.loads_are
+    (subst (λ (b : List ℕ). AreWritten e sender 0 (map (payload_in (cargo_from config part group b out.frames)) loads)) lent.bytes_are written)
 
-made-room : (config : Config) (part : GroupPart) (sender : Option SenderState) (group : Group) (out : Datagrams) (bytes : List ℕ) (loads : List Load) → MayMake config part sender group out
-    → bytes ≡ take 32768 out.bytes.items → loads ≡ out.loads.items → length (joined (made_from config part sender group bytes out.frames loads)) ≤ 229376
-made-room config part sender group out bytes loads make front same =
-    omega (arith, ap (λ (l : List (List ℕ)). length (joined l)) (made-same config part sender group out bytes loads front same), make.room)
-
-pub may-fill : (config : Config) (part : GroupPart) (sender : Option SenderState) (group : Group) (out : Datagrams) (buffer : List ℕ) (loads : List Load) → MayMake config part sender group out
-    → buffer ≡ out.bytes.items → loads ≡ out.loads.items → MayFill config part sender group buffer out.frames loads
-may-fill config part sender group out buffer loads make is same =
+pub may-fill : (config : Config) (part : GroupPart) (sender : Option SenderState) (group : Group) (out : Datagrams) (bytes free : List ℕ) (loads : List Load)
+    → MayMake config part sender group out → AreLent out bytes free loads → MayFill config part sender group bytes free out.frames loads
+may-fill config part sender group out bytes free loads make lent =
     record {
-      may = may-make config part sender group out (take 32768 buffer) loads make (ap (take 32768) is) same;
-      long = omega (arith, ap length is, out.bytes.ok.0, make.reserved.bytes);
-      room = made-room config part sender group out (take 32768 buffer) loads make (ap (take 32768) is) same;
+      may = may-make config part sender group out bytes free loads make lent;
+      room = omega (
+        arith,
+        ap (λ (l : List (List ℕ)). length (joined l)) (made-same config part sender group out bytes free loads lent),
+        ap (λ (l : List ℕ). length l) lent.free_is,
+        make.room,
+        out.bytes.ok.0,
+      );
     }
 
-pub is-posted : (config : Config) (part : GroupPart) (sender : Option SenderState) (group : Group) (out : Datagrams) (buffer : List ℕ) (loads : List Load) (after : List ℕ) (ranges : Vec Range Global)
-    → MayMake config part sender group out → buffer ≡ out.bytes.items → loads ≡ out.loads.items → length after ≡ length buffer
-    → IsFilled config part sender group buffer out.frames loads after ranges.items → vec_capacity out.ranges ≤ vec_capacity ranges
-    → IsPosted config part sender group out (record { bytes = with_items out.bytes after; frames = out.frames; loads = out.loads; ranges = ranges })
-is-posted config part sender group out buffer loads after ranges make is same long filled capacity =
-    let front : take 32768 buffer ≡ take 32768 out.bytes.items = ap (take 32768) is in
-    let made = made_from config part sender group (take 32768 buffer) out.frames loads in
-    let made_is : made ≡ made_with config part sender group out = made-same config part sender group out (take 32768 buffer) loads front same in
-    let value : length buffer ≡ length out.bytes.items = ap length is in
+abbrev filled_out : Datagrams → List ℕ → Vec Range Global → Datagrams
+filled_out out after ranges = record out { bytes = with_items out.bytes after; ranges = ranges }
+
+pub is-posted : (config : Config) (part : GroupPart) (sender : Option SenderState) (group : Group) (out : Datagrams) (bytes free : List ℕ) (loads : List Load)
+    (after : List ℕ) (ranges : Vec Range Global) → MayMake config part sender group out → AreLent out bytes free loads → length after ≡ length free
+    → IsFilled config part sender group bytes free out.frames loads after ranges.items → vec_capacity out.ranges ≤ vec_capacity ranges
+    → IsPosted config part sender group out (filled_out out after ranges)
+is-posted config part sender group out bytes free loads after ranges make lent long filled capacity =
+    let made = made_from config part sender group bytes out.frames loads in
+    let made_is : made ≡ made_with config part sender group out = made-same config part sender group out bytes free loads lent in
+    let value : length free ≡ length out.bytes.items = ap (λ (l : List ℕ). length l) lent.free_is in
     let kept : (with_items out.bytes after).items ≡ after = with_items_is out.bytes after (omega (arith, long, value, out.bytes.ok.0)) in
-    let size : length (take 32768 buffer) ≡ 32768 = length-take-le 32768 buffer (omega (arith, value, out.bytes.ok.0, make.reserved.bytes)) in
+    let room : length (joined made) ≤ vec_len out.bytes = omega (arith, ap (λ (l : List (List ℕ)). length (joined l)) made_is, make.room) in
     record {
-      made = buffer-stands (with_items out.bytes after).items (take 32768 buffer) (drop 32768 buffer) ranges.items made (kept ∙ filled.laid_is) filled.ranges_are size ∙ made_is;
-      written = written-same config part sender group out (take 32768 buffer) loads front same filled.written;
-      reserved = record {
-        bytes = make.reserved.bytes;
-        loads = make.reserved.loads;
-        ranges = omega (arith, make.reserved.ranges);
-        within = buffer-within ranges.items made filled.ranges_are (omega (arith, ap (λ (l : List (List ℕ)). length (joined l)) made_is, make.room));
+      made = buffer-stands (with_items out.bytes after).items free ranges.items made (kept ∙ filled.laid_is) filled.ranges_are ∙ made_is;
+      written = written-same config part sender group out bytes free loads lent filled.written;
+      room = λ need has. record {
+        within = record {
+          frames = has.within.frames;
+          bytes = has.within.bytes;
+          ranges = buffer-within (vec_len out.bytes) ranges.items made filled.ranges_are room;
+        };
+        frames = has.frames;
+        bytes = has.bytes;
+        loads = has.loads;
+        ranges = omega (arith, has.ranges, capacity);
       };
     }

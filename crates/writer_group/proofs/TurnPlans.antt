@@ -11,7 +11,7 @@ use Rattle.ps_config.specs.declared.parts.Config.{Config}
 use Rattle.ps_config.specs.declared.parts.GroupPart.{GroupPart}
 use Rattle.ps_config.specs.declared.parts.WriterPart.{WriterPart}
 use Rattle.ps_config.specs.FixedSound.{IsFixedGroup}
-use Rattle.ps_config.specs.Rooms.{IsRoomy, chunk_room, is_fixed, lacks_room}
+use Rattle.ps_config.specs.Rooms.{IsRoomy, chunk_room, datagrams_in, is_fixed, lacks_room}
 use Rattle.ps_config.proofs.Roomy.{chunk_roomy, turn_roomy}
 use Rattle.fixed_layout.specs.declared.slot.Slot.{Slot}
 use Rattle.fixed_layout.specs.Datagrams.{AreFrames, fixed_payload}
@@ -24,12 +24,14 @@ use Rattle.writer_group.specs.Holding.{CargoValue, payload_in}
 use Rattle.writer_group.specs.Loading.{AreInSlots, IsLoad}
 use Rattle.writer_group.specs.Making.{loads_by}
 use Rattle.writer_group.specs.Payloads.{Spelled, fixed_header, meta_at, size_of, slots_of, writer_at, in_slots}
+use Rattle.writer_group.specs.Needs.{datagrams_need}
 use Rattle.writer_group.specs.Planning.{planned}
 use Rattle.writer_group.specs.Posting.{joined}
 use Rattle.writer_group.specs.Sealing.{Envelope, Payload, datagrams_from}
 use Rattle.writer_group.proofs.DatagramSizes.{IsBrief, dynamic-bytes, fixed-bytes}
 use Rattle.writer_group.proofs.FixedTurns.{are-frames, fixed-size}
 use Rattle.writer_group.proofs.LoadPayloads.{planned-are}
+use Rattle.writer_group.proofs.Needs.{need-one, need-some}
 use Rattle.writer_group.proofs.TickLaws.{IsCargoOf, dynamic-payloads}
 use Rattle.writer_group.proofs.Totals.{needs-few, planned-need}
 
@@ -47,13 +49,13 @@ pub record IsReady (config : Config) (part : GroupPart) (metas : List MetaData) 
   pub brief : IsBrief e
   pub sender_is : IfSome sender IsSender
 
-pub record Plans (cargo : CargoValue) (sender : Option SenderState) (e : Envelope) (planned_loads : List Load) : Type 0 where
+pub record Plans (most : ℕ) (cargo : CargoValue) (sender : Option SenderState) (e : Envelope) (planned_loads : List Load) : Type 0 where
   pub loads_are : All (IsLoad cargo) planned_loads
-  pub few : length planned_loads ≤ 1024
+  pub few : length planned_loads ≤ most
   pub room : length (joined (datagrams_from e sender 0 (map (payload_in cargo) planned_loads))) ≤ 229376
 
 dynamic-plans : (config : Config) (part : GroupPart) (metas : List MetaData) (cargo : CargoValue) (frames : List Spelled) (sender : Option SenderState) (e : Envelope) → is_fixed part.layout ≡ false
-    → IsReady config part metas cargo frames sender e → Plans cargo sender e (planned (frame_room config.publisher.id part) (chunk_room config.publisher.id part) (map size_of frames))
+    → IsReady config part metas cargo frames sender e → Plans (datagrams_need config.publisher.id metas part) cargo sender e (planned (frame_room config.publisher.id part) (chunk_room config.publisher.id part) (map size_of frames))
 dynamic-plans config part metas cargo frames sender e dynamic ready =
     let roomy : IsRoomy config.publisher.id metas part = record { dynamic = dynamic; room = ready.roomy } in
     let big = frame_room config.publisher.id part in
@@ -62,13 +64,13 @@ dynamic-plans config part metas cargo frames sender e dynamic ready =
     let all = planned big room (map size_of frames) in
     let bytes : All (λ (f : Spelled). 1 ≤ size_of f) frames = All-weaker (IsAnswerOf part metas) (λ (f : Spelled). 1 ≤ size_of f) (λ (f : Spelled) (is : IsAnswerOf part metas f). is.some) frames ready.answers.each in
     let short : All (λ (f : Spelled). size_of f ≤ 2048) frames = All-weaker (IsAnswerOf part metas) (λ (f : Spelled). size_of f ≤ 2048) (λ (f : Spelled) (is : IsAnswerOf part metas f). is.short) frames ready.answers.each in
-    let count : length all ≤ 1024 =
+    let fewer : length all ≤ datagrams_in room metas part.writer =
     omega (
       arith,
       planned-need frames big room some bytes,
       needs-few room part metas frames some dynamic ready.known ready.answers,
-      turn_roomy config.publisher.id metas part roomy,
     ) in
+    let count : length all ≤ 1024 = omega (arith, fewer, turn_roomy config.publisher.id metas part roomy) in
     let payloads = dynamic-payloads config part cargo frames ready.cargo_is in
     let are : All (IsLoad cargo) all =
     subst (λ (n : ℕ). All (IsLoad cargo) (planned big n (map size_of frames))) ready.cargo_is.room
@@ -76,7 +78,7 @@ dynamic-plans config part metas cargo frames sender e dynamic ready =
     (planned-are cargo big (omega (arith, some, ready.cargo_is.room)))) in
     record {
       loads_are = are;
-      few = count;
+      few = need-some config.publisher.id metas part (length all) dynamic count fewer;
       room = subst (λ (l : List Payload). length (joined (datagrams_from e sender 0 l)) ≤ 229376) (sym payloads)
           (dynamic-bytes e sender big room frames ready.brief ready.sender_is ready.few short (omega (arith, sym (ap length payloads) ∙ length-map all (payload_in cargo), count)));
     }
@@ -90,7 +92,7 @@ configured-answer config part metas frames answers same k d within =
 
 -- of a group with writers
 slots-plan : (config : Config) (part : GroupPart) (metas : List MetaData) (cargo : CargoValue) (frames : List Spelled) (sender : Option SenderState) (e : Envelope) → is_fixed part.layout ≡ true
-    → IsReady config part metas cargo frames sender e → Plans cargo sender e (loads.Slots ∷ [])
+    → IsReady config part metas cargo frames sender e → Plans (datagrams_need config.publisher.id metas part) cargo sender e (loads.Slots ∷ [])
 slots-plan config part metas cargo frames sender e fixed ready =
     let group = ready.fixed fixed in
     let start = ready.cargo_is.start in
@@ -111,21 +113,21 @@ slots-plan config part metas cargo frames sender e fixed ready =
     (subst (λ (l : List Slot). length (fixed_payload (fixed_header config.publisher.id part) l (in_slots cargo.frames)) ≤ 65000) (sym slots) (fixed-size config part (in_slots cargo.frames) group ready.max_size own)) in
     record {
       loads_are = All-cons (IsLoad cargo) loads.Slots [] laid (All-nil (IsLoad cargo));
-      few = omega arith;
+      few = need-one config.publisher.id metas part fixed;
       room = fixed-bytes e sender (payload_in cargo loads.Slots) ready.brief ready.sender_is (omega (arith, small));
     }
 
-no-plan : (cargo : CargoValue) (sender : Option SenderState) (e : Envelope) → Plans cargo sender e []
-no-plan cargo sender e = record { loads_are = All-nil (IsLoad cargo); few = omega arith; room = omega arith }
+no-plan : (most : ℕ) (cargo : CargoValue) (sender : Option SenderState) (e : Envelope) → Plans most cargo sender e []
+no-plan most cargo sender e = record { loads_are = All-nil (IsLoad cargo); few = omega arith; room = omega arith }
 
 pub turn-plans : (config : Config) (part : GroupPart) (metas : List MetaData) (cargo : CargoValue) (frames : List Spelled) (sender : Option SenderState) (e : Envelope)
-    → IsReady config part metas cargo frames sender e → Plans cargo sender e (loads_by part.layout config.publisher.id part (map size_of frames))
+    → IsReady config part metas cargo frames sender e → Plans (datagrams_need config.publisher.id metas part) cargo sender e (loads_by part.layout config.publisher.id part (map size_of frames))
 turn-plans config part metas cargo frames sender e ready = by_layout part.layout refl
   where
-    by_layout : (l : Layout) → part.layout ≡ l → Plans cargo sender e (loads_by l config.publisher.id part (map size_of frames))
+    by_layout : (l : Layout) → part.layout ≡ l → Plans (datagrams_need config.publisher.id metas part) cargo sender e (loads_by l config.publisher.id part (map size_of frames))
     by_layout layout.Dynamic same = dynamic-plans config part metas cargo frames sender e (ap is_fixed same) ready
     by_layout layout.Fixed same = by_writers (nat_lt 0 (length part.writer))
       where
-        by_writers : (b : Bool) → Plans cargo sender e (if b then loads.Slots ∷ [] else [])
+        by_writers : (b : Bool) → Plans (datagrams_need config.publisher.id metas part) cargo sender e (if b then loads.Slots ∷ [] else [])
         by_writers true = slots-plan config part metas cargo frames sender e (ap is_fixed same) ready
-        by_writers false = no-plan cargo sender e
+        by_writers false = no-plan (datagrams_need config.publisher.id metas part) cargo sender e

@@ -1,10 +1,11 @@
 -- The limits of a turn.
 use Rattle.std.specs.Prelude.{ℕ}
 
--- the bytes of the buffer: those for the frames, in front, and those for the datagrams, after them
-abbrev pub buffer_bytes : ℕ
-buffer_bytes = 262144
+-- the bytes of a frame at most
+abbrev pub longest_frame : ℕ
+longest_frame = 2048
 
+-- the bytes of a turn's frames at most, and those of its datagrams
 abbrev pub frames_bytes : ℕ
 frames_bytes = 32768
 

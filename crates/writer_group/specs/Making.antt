@@ -1,5 +1,5 @@
 -- Making the datagrams of a turn that was planned.
-use Rattle.std.specs.Prelude.{◌≡◌, ℕ, ◌+◌, ◌%◌, ◌≤◌, Bool, List, [], ◌∷◌, ◌++◌, length, map, take, drop, nat_lt, All, Option, if◌then◌else◌}
+use Rattle.std.specs.Prelude.{◌≡◌, ℕ, ◌+◌, ◌%◌, ◌≤◌, Bool, List, [], ◌∷◌, length, map, nat_lt, All, Option, vec_capacity, vec_len, if◌then◌else◌}
 use Rattle.message_guard.specs.Senders.{SenderState}
 use Rattle.config_tables.specs.declared.publisher.Publisher.{Publisher}
 use Rattle.config_tables.specs.declared.words.Layout.{Layout}
@@ -24,8 +24,8 @@ use Rattle.writer_group.specs.Holding.{AreSpelledIn, CargoValue, frames_at, list
 use Rattle.writer_group.specs.Loading.{IsLoad}
 use Rattle.writer_group.specs.Planning.{planned}
 use Rattle.writer_group.specs.Posting.{joined, ranges_of, made_of}
-use Rattle.writer_group.specs.Standing.{IsReserved, IsMadeFor, IsSenderFor, datagrams_in}
-use Rattle.writer_group.specs.Limits.{frames_bytes, most_datagrams, datagrams_bytes, buffer_bytes}
+use Rattle.writer_group.specs.Standing.{AreWithin, IsMadeFor, IsSenderFor, KeepsRoom, datagrams_in}
+use Rattle.writer_group.specs.Limits.{frames_bytes, most_datagrams}
 
 -- what a dynamic turn plans for frames of these sizes
 abbrev pub planned_in : Rooms → List ℕ → List Load
@@ -57,29 +57,30 @@ cargo_from config part group bytes frames = record {
 abbrev pub made_from : Config → GroupPart → Option SenderState → Group → List ℕ → Frames → List Load → List (List ℕ)
 made_from config part sender group bytes frames loads = made_of (envelope_with config part group.made) sender (cargo_from config part group bytes frames) loads
 
--- the frames stand in the first 32,768 bytes of the buffer
+-- the frames stand in their own bytes
 abbrev pub cargo_with : Config → GroupPart → Group → Datagrams → CargoValue
-cargo_with config part group out = cargo_from config part group (take frames_bytes out.bytes.items) out.frames
+cargo_with config part group out = cargo_from config part group out.spelled.items out.frames
 
 -- the frames of a turn
 abbrev pub spelled_in : Datagrams → List Spelled
-spelled_in out = frames_at (take frames_bytes out.bytes.items) out.frames
+spelled_in out = frames_at out.spelled.items out.frames
 
 -- they were spelled, and nothing was planned yet
 pub record AreSpelled (part : GroupPart) (metas : List MetaData) (out : Datagrams) : Type 0 where
-  pub reserved : IsReserved out
   pub no_loads : out.loads.items ≡ []
   pub no_ranges : out.ranges.items ≡ []
-  pub spelled : AreSpelledIn (take frames_bytes out.bytes.items) out.frames
+  pub spelled : AreSpelledIn out.spelled.items out.frames
   pub few : length (listed out.frames) ≤ length part.writer
   pub answers : AreAnswers part metas (length part.writer) (spelled_in out)
 
 -- the datagrams that these loads make
 abbrev pub made_with : Config → GroupPart → Option SenderState → Group → Datagrams → List (List ℕ)
-made_with config part sender group out = made_from config part sender group (take frames_bytes out.bytes.items) out.frames out.loads.items
+made_with config part sender group out =
+    made_from config part sender group out.spelled.items out.frames out.loads.items
 
 -- the loads are of what the frames are, and the sender has numbers for them
-pub record MayMakeOf (config : Config) (part : GroupPart) (sender : Option SenderState) (group : Group) (bytes : List ℕ) (frames : Frames) (loads : List Load) : Type 0 where
+pub record MayMakeOf (config : Config) (part : GroupPart) (sender : Option SenderState) (group : Group) (bytes : List ℕ) (frames : Frames)
+    (loads : List Load) : Type 0 where
   pub made_for : IsMadeFor config part group
   pub loads_are : All (IsLoad (cargo_from config part group bytes frames)) loads
   pub few : length loads ≤ most_datagrams
@@ -90,33 +91,29 @@ pub record MayMakeOf (config : Config) (part : GroupPart) (sender : Option Sende
 
 -- the planned datagrams have room, and the sender has numbers for them
 pub record MayMake (config : Config) (part : GroupPart) (sender : Option SenderState) (group : Group) (out : Datagrams) : Type 0 where
-  pub reserved : IsReserved out
+  pub within : AreWithin out
   pub none : out.ranges.items ≡ []
-  pub made_for : IsMadeFor config part group
-  pub loads_are : All (IsLoad (cargo_with config part group out)) out.loads.items
-  pub few : length out.loads.items ≤ most_datagrams
-  pub spelled : AreSpelledIn (take frames_bytes out.bytes.items) out.frames
-  pub frames_few : length (listed out.frames) ≤ 16
-  pub sender_is : IsSenderFor part sender
-  pub room : length (joined (made_with config part sender group out)) ≤ datagrams_bytes
+  pub left : length out.loads.items ≤ vec_capacity out.ranges
+  pub may : MayMakeOf config part sender group out.spelled.items out.frames out.loads.items
+  pub room : length (joined (made_with config part sender group out)) ≤ vec_len out.bytes
 
--- they were made, with headers that can be written, and the buffer is as large as it was
+-- they were made, with headers that can be written, and there is as much room as before
 pub record IsPosted (config : Config) (part : GroupPart) (sender : Option SenderState) (group : Group) (out after : Datagrams) : Type 0 where
   pub made : datagrams_in after ≡ made_with config part sender group out
   pub written : AreWritten (envelope_with config part group.made) sender 0 (map (payload_in (cargo_with config part group out)) out.loads.items)
-  pub reserved : IsReserved after
+  pub room : KeepsRoom out after
 
--- the datagrams with these loads have room after the frames in a buffer's bytes, and the sender has numbers for them
-pub record MayFill (config : Config) (part : GroupPart) (sender : Option SenderState) (group : Group) (buffer : List ℕ) (frames : Frames) (loads : List Load) : Type 0 where
-  pub may : MayMakeOf config part sender group (take frames_bytes buffer) frames loads
-  pub long : length buffer ≡ buffer_bytes
-  pub room : length (joined (made_from config part sender group (take frames_bytes buffer) frames loads)) ≤ datagrams_bytes
+-- the datagrams with these loads, of frames in these bytes, have room in the free bytes, and the sender has numbers for them
+pub record MayFill (config : Config) (part : GroupPart) (sender : Option SenderState) (group : Group) (bytes free : List ℕ) (frames : Frames)
+    (loads : List Load) : Type 0 where
+  pub may : MayMakeOf config part sender group bytes frames loads
+  pub room : length (joined (made_from config part sender group bytes frames loads)) ≤ length free
 
-pub record IsFilled (config : Config) (part : GroupPart) (sender : Option SenderState) (group : Group) (buffer : List ℕ) (frames : Frames) (loads : List Load)
-    (after : List ℕ) (ranges : List Range) : Type 0 where
-  pub laid_is : after ≡ take frames_bytes buffer ++ laid (drop frames_bytes buffer) 0 (joined (made_from config part sender group (take frames_bytes buffer) frames loads))
-  pub ranges_are : ranges ≡ ranges_of 0 (made_from config part sender group (take frames_bytes buffer) frames loads)
-  pub written : AreWritten (envelope_with config part group.made) sender 0 (map (payload_in (cargo_from config part group (take frames_bytes buffer) frames)) loads)
+pub record IsFilled (config : Config) (part : GroupPart) (sender : Option SenderState) (group : Group) (bytes free : List ℕ) (frames : Frames)
+    (loads : List Load) (after : List ℕ) (ranges : List Range) : Type 0 where
+  pub laid_is : after ≡ laid free 0 (joined (made_from config part sender group bytes frames loads))
+  pub ranges_are : ranges ≡ ranges_of 0 (made_from config part sender group bytes frames loads)
+  pub written : AreWritten (envelope_with config part group.made) sender 0 (map (payload_in (cargo_from config part group bytes frames)) loads)
 
 -- the group after a turn with so many datagrams
 abbrev pub passed : ℕ → Bool → ℕ → Group → Group

@@ -24,12 +24,14 @@ use Rattle.writer_group.specs.Payloads.{meta_at, writer_at, fixed_header, payloa
 use Rattle.writer_group.specs.Sealing.{AreWritten, advanced_by}
 use Rattle.writer_group.specs.Setup.{AreSlotsOf, rooms_of}
 use Rattle.writer_group.specs.Turns.{answer_by, GroupDeed, HadGroupTurn, RefreshedWriter, is_due, told_of, writer_past, settings_of, made_in, last_moment, TurnInput, envelope_of, frames_in, turn_datagrams, turned}
-use Rattle.writer_group.specs.Limits.{frames_bytes, most_datagrams, buffer_bytes}
+use Rattle.writer_group.specs.declared.need.Need.{Need}
+use Rattle.writer_group.specs.Limits.{datagrams_bytes, frames_bytes, most_datagrams}
+use Rattle.writer_group.specs.Needs.{largest_need, need_with}
 
--- ---- the datagrams in the buffer, of which the first 32,768 bytes are for the frames
+-- ---- the datagrams in their bytes
 
 abbrev pub datagram_in : List ℕ → Range → List ℕ
-datagram_in bytes range = slice_range bytes (frames_bytes + range.start) (frames_bytes + range.end)
+datagram_in bytes range = slice_range bytes range.start range.end
 
 -- the datagrams of the last turn, in order
 abbrev pub datagrams_in : Datagrams → List (List ℕ)
@@ -82,7 +84,8 @@ pub record IsGood (config : Config) : Type 0 where
 -- more than 1,024 datagrams
 pub record AreMetas (config : Config) (part : GroupPart) (metas : List MetaData) : Type 0 where
   pub count : length metas ≡ length config.dataset
-  pub fixed : is_fixed part.layout ≡ true → (writer : ℕ) → writer < length part.writer → meta_at part metas writer ≡ meta_at part config.dataset writer
+  pub fixed : is_fixed part.layout ≡ true → (writer : ℕ) → writer < length part.writer
+      → meta_at part metas writer ≡ meta_at part config.dataset writer
   pub room : lacks_room config.publisher.id metas part ≡ false
 
 -- a row of each data set's meta, and a truth value for each writer
@@ -96,16 +99,42 @@ pub record IsSenderFor (part : GroupPart) (sender : Option SenderState) : Type 0
   pub sender_is : IfSome sender IsSender
   pub unspent : IfSome sender (λ s. most_datagrams ≤ numbers_left s)
 
--- as `new` reserves it
-pub record IsWithinBuffer (range : Range) : Type 0 where
-  pub rising : range.start ≤ range.end
-  pub within : frames_bytes + range.end ≤ buffer_bytes
+-- ---- the memory of a turn
 
-pub record IsReserved (out : Datagrams) : Type 0 where
-  pub bytes : vec_len out.bytes ≡ buffer_bytes
-  pub loads : most_datagrams ≤ vec_capacity out.loads
-  pub ranges : most_datagrams ≤ vec_capacity out.ranges
-  pub within : All IsWithinBuffer out.ranges.items
+-- a datagram within so many bytes
+pub record IsWithinBuffer (end : ℕ) (range : Range) : Type 0 where
+  pub rising : range.start ≤ range.end
+  pub within : range.end ≤ end
+
+-- the datagrams of the last turn are within their bytes, and there are no more bytes than a turn can fill
+pub record AreWithin (out : Datagrams) : Type 0 where
+  pub frames : vec_len out.spelled ≤ frames_bytes
+  pub bytes : vec_len out.bytes ≤ datagrams_bytes
+  pub ranges : All (IsWithinBuffer (vec_len out.bytes)) out.ranges.items
+
+-- it has room for a turn that needs so much
+pub record HasRoomOf (need : Need) (out : Datagrams) : Type 0 where
+  pub within : AreWithin out
+  pub frames : need.frames ≤ vec_len out.spelled
+  pub bytes : need.bytes ≤ vec_len out.bytes
+  pub loads : need.datagrams ≤ vec_capacity out.loads
+  pub ranges : need.datagrams ≤ vec_capacity out.ranges
+
+-- for the turns of the groups of a configuration, with these metas of its data sets
+abbrev pub HasRoomFor : Config → List MetaData → Datagrams → Type 0
+HasRoomFor config metas out = HasRoomOf (need_with config metas) out
+
+-- for those with the metas of the configuration, as `for_config` reserves it
+abbrev pub HasRoom : Config → Datagrams → Type 0
+HasRoom config out = HasRoomFor config config.dataset out
+
+-- for the largest turn of any group of any configuration, as `new` reserves it
+abbrev pub IsReserved : Datagrams → Type 0
+IsReserved out = HasRoomOf largest_need out
+
+-- whatever turns the old one had room for, the new one has
+abbrev pub KeepsRoom : Datagrams → Datagrams → Type 0
+KeepsRoom old new = (need : Need) → HasRoomOf need old → HasRoomOf need new
 
 -- ---- a turn
 
@@ -208,7 +237,8 @@ IsMadeBeginning writer first old new =
     (config : Config) (index : ℕ) (part : GroupPart) → IsMadeFor config part old
     → IsMadeFor (config_beginning index writer first config) (group_beginning writer first part) new
 
--- where the writer with this index had no turn, the group stands where these deeds leave one in which that writer begins at this number; its meta may be another from now on
+-- where the writer with this index had no turn, the group stands where these deeds leave one in which that writer begins at this number; its meta may be
+-- another from now on
 abbrev pub HasBegun : ℕ → ℕ → Group → Group → Type 0
 HasBegun writer first old new =
     (metas others : ℕ → MetaData) (part : GroupPart) (past : List GroupDeed) → AreSameBut writer (length part.writer) metas others
@@ -246,7 +276,8 @@ pub record IsMomentOf (interval now moment : ℕ) : Type 0 where
 
 -- it is that of the group's publishing interval
 abbrev pub TellsMoment : Group → ℕ → ℕ → Type 0
-TellsMoment group now moment = (config : Config) (part : GroupPart) → IsMadeFor config part group → 1 ≤ part.interval → IsMomentOf part.interval now moment
+TellsMoment group now moment =
+    (config : Config) (part : GroupPart) → IsMadeFor config part group → 1 ≤ part.interval → IsMomentOf part.interval now moment
 
 -- where the moment of the last turn is a multiple of the publishing interval, the group is due at the moment of each time that is an interval later, or more
 abbrev pub IsDueInTime : GroupPart → List GroupDeed → Type 0
@@ -282,7 +313,8 @@ HasTickedAt config input old new out =
 -- its writers may have one turn less, of the metas of this one
 abbrev pub GoesOnAt : Config → List MetaData → Group → Group → Type 0
 GoesOnAt config metas old new =
-    HoldsAt (λ part. (turns : ℕ) → MayGoOn (metas_for part metas) part (turns + 1) old → MayGoOn (metas_for part metas) part turns new) config.group (index_of old)
+    HoldsAt (λ part. (turns : ℕ) → MayGoOn (metas_for part metas) part (turns + 1) old → MayGoOn (metas_for part metas) part turns new)
+    config.group (index_of old)
 
 -- its sender, if it has one, gave a front for each of so many datagrams
 abbrev pub IsSenderAfter : Config → ℕ → ℕ → Option SenderState → Option SenderState → Type 0

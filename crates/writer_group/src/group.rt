@@ -1,13 +1,13 @@
 //! Groups of writers.
-ghost use Rattle.std.specs.Prelude.{◌≡◌, ◌↔◌, ◌<◌, ◌≤◌, ◌^◌, All, List, ℕ, IfNone, IfOk, IfSome, IsTrue, length, slice_index_or};
+ghost use Rattle.std.specs.Prelude.{◌≡◌, ◌↔◌, ◌<◌, ◌≤◌, ◌*◌, ◌^◌, All, List, ℕ, IfNone, IfOk, IfSome, IsTrue, length, slice_index_or, vec_len};
 ghost use Rattle.std.specs.Option.{ForSome, option_copied};
 ghost use Rattle.message_guard.specs.Senders.{IsSender};
 ghost use Rattle.ps_config.specs.Beginning.{config_beginning};
-ghost use Rattle.writer_group.specs.Limits.{most_datagrams};
+ghost use Rattle.writer_group.specs.Limits.{longest_frame, most_datagrams};
 ghost use Rattle.writer_group.specs.Lending.{lent_in, left_in};
 ghost use Rattle.writer_group.specs.Answering.{HaveAnswered, MayAnswer, MayGo};
 ghost use Rattle.writer_group.specs.Making.{AreSpelled, passed, spelled_in};
-ghost use Rattle.writer_group.specs.Standing.{datagrams_in, index_of, writer_count, AreLogged, AreRowsOf, GoesOnAt, GoesOnBegun, GoesOnRefreshed, HasBegun, IsLoggedIn, IsNeverDue, KeepsLogs, KeepsOnLogging, KeepsTo, HasTickedAt, IsFreshAt, IsGood, IsInOrder, IsMadeAt, IsRefreshed, IsReserved, IsSenderAfter, IsSenderFor, IsMadeBeginning, IsStillMade, IsWriterIn, MayTickAt, MayTurnAt, TellsDue, TellsDueFrom, TellsMoment, TellsNextNumber, input_of};
+ghost use Rattle.writer_group.specs.Standing.{datagrams_in, index_of, writer_count, AreLogged, AreRowsOf, GoesOnAt, GoesOnBegun, GoesOnRefreshed, HasBegun, HasRoomFor, IsLoggedIn, IsNeverDue, KeepsLogs, KeepsOnLogging, KeepsRoom, KeepsTo, HasTickedAt, IsFreshAt, IsGood, IsInOrder, IsMadeAt, IsRefreshed, IsReserved, IsSenderAfter, IsSenderFor, IsMadeBeginning, IsStillMade, IsWriterIn, MayTickAt, MayTurnAt, TellsDue, TellsDueFrom, TellsMoment, TellsNextNumber, input_of};
 ghost use Rattle.writer_group.specs.Turns.{GroupDeed, told_of};
 
 use crate::answering::answer_all;
@@ -220,6 +220,45 @@ impl Group {
         ensures reserved { IsReserved out.new }
         ensures keeps_to { metas.now ≡ config.now.dataset → KeepsTo config.now self.new }
     {
+        match sender {
+            None => self.tick_within(config, metas, now, rows, on, None, closing, out),
+            Some(sender) => {
+                self.tick_within(config, metas, now, rows, on, Some(sender), closing, out)
+            }
+        }
+    }
+
+    /// The same, with room for the turns of this configuration's groups alone, as `Datagrams::for_config` reserves it.
+    pub fn tick_within(
+        &mut self,
+        config: &Config,
+        metas: &[Meta],
+        now: u64,
+        rows: &[Sampled],
+        on: &[bool],
+        sender: Option<&mut Sender>,
+        closing: bool,
+        out: &mut Datagrams,
+    ) -> u32
+        requires good { IsGood config.now }
+        requires index { index_of self.old < length config.now.group }
+        requires turn { MayTickAt config.now metas.now rows.now on.now (lent_in sender) self.old }
+        requires room { HasRoomFor config.now metas.now out.old }
+        ensures stands { HasTickedAt config.now
+            (input_of now closing metas.now rows.now on.now (lent_in sender.entry))
+            self.old self.new out.new }
+        ensures goes_on { GoesOnAt config.now metas.now self.old self.new }
+        ensures logs { KeepsOnLogging self.old self.new }
+        ensures made { IsMadeAt config.now (index_of self.old) self.new }
+        ensures index { index_of self.new ≡ index_of self.old }
+        ensures count { result ≡ length (datagrams_in out.new) }
+        ensures few { result ≤ most_datagrams }
+        ensures sender_stays { IfSome (left_in sender.exit) IsSender }
+        ensures sender { IsSenderAfter config.now (index_of self.old) result (lent_in sender.entry)
+            (left_in sender.exit) }
+        ensures room { KeepsRoom out.old out.new }
+        ensures keeps_to { metas.now ≡ config.now.dataset → KeepsTo config.now self.new }
+    {
         let group = part_of(config, self.index);
         a_class_id_is_whole(group);
         self.answer(group, metas, now, rows, on, closing, out);
@@ -267,13 +306,14 @@ impl Group {
         out: &mut Datagrams,
     )
         requires may { MayAnswer group.now metas.now rows.now on.now self.old.writers.items }
-        requires reserved { IsReserved out.old }
+        requires frames { longest_frame * length on.now ≤ vec_len out.old.spelled }
         ensures answered { (past : List GroupDeed)
             → HaveAnswered group.now (told_of now closing metas.now rows.now) on.now past
             self.old.writers.items self.new.writers.items (spelled_in out.new) }
         ensures goes_on { MayGo group.now metas.now self.old.writers.items self.new.writers.items }
         ensures rest { self.new ≡ record self.old { writers = self.new.writers } }
         ensures spelled { AreSpelled group.now metas.now out.new }
+        ensures room { KeepsRoom out.old out.new }
     {
         out.forget();
         answer_all(
@@ -284,7 +324,7 @@ impl Group {
             rows,
             on,
             closing,
-            &mut out.bytes,
+            &mut out.spelled,
             &mut out.frames,
         );
     }

@@ -1,4 +1,4 @@
-//! Groups of writers (OPC 10000-14 6.2.6, WriterGroup): what each turn's frames become, datagrams in one buffer.
+//! Groups of writers (OPC 10000-14 6.2.6, WriterGroup): what each turn's frames become, datagrams in memory that all groups use.
 #![tactic(auto)]
 
 mod answering;
@@ -12,6 +12,7 @@ mod lead;
 mod leads;
 mod load;
 mod making;
+mod need;
 mod planning;
 mod posting;
 mod sampled;
@@ -28,4 +29,5 @@ pub use laws::{
     a_turn_with_a_frame_makes_a_datagram, each_answer_is_a_frame, headers_of_a_turn_can_be_written,
     no_datagram_is_longer_than_max_size, no_token_and_number_come_twice_in_groups,
 };
+pub use need::Need;
 pub use sampled::Sampled;

@@ -10,12 +10,12 @@ use crate::header_parts::HeaderParts;
 use crate::laying::Cargo;
 use crate::load::Load;
 use crate::posting::{Range, post_open, post_secured};
-use crate::spelled::{FRAMES_BYTES, Frames};
+use crate::spelled::Frames;
 use message_guard::Sender;
 use ps_config::{Config, GroupPart, mode_of};
 
 impl Group {
-    /// Makes the datagrams that were planned, after the frames, without security.
+    /// Makes the datagrams that were planned, without security.
     pub(crate) fn post(&self, config: &Config, group: &GroupPart, out: &mut Datagrams)
         requires { MayMake config.now group.now None self.now out.old }
         ensures { IsPosted config.now group.now None self.now out.old out.new }
@@ -23,14 +23,15 @@ impl Group {
         self.make(
             config,
             group,
-            &mut out.bytes,
+            &out.spelled,
             &out.frames,
             &out.loads,
+            &mut out.bytes,
             &mut out.ranges,
         );
     }
 
-    /// Makes the datagrams that were planned, after the frames, each protected under the sender's next number.
+    /// Makes the datagrams that were planned, each protected under the sender's next number.
     pub(crate) fn post_sealed(
         &self,
         config: &Config,
@@ -47,35 +48,37 @@ impl Group {
             config,
             group,
             sender,
-            &mut out.bytes,
+            &out.spelled,
             &out.frames,
             &out.loads,
+            &mut out.bytes,
             &mut out.ranges,
         );
     }
 
-    /// Makes the datagrams of these loads after the frames that stand in the buffer.
+    /// Makes the datagrams of these loads, of the frames that stand in these bytes.
     fn make(
         &self,
         config: &Config,
         group: &GroupPart,
-        buffer: &mut [u8],
+        bytes: &[u8],
         frames: &Frames,
         loads: &[Load],
+        free: &mut [u8],
         ranges: &mut Vec<Range>,
     )
-        requires may { MayFill config.now group.now None self.now buffer.old frames.now loads.now }
+        requires may { MayFill config.now group.now None self.now bytes.now free.old frames.now
+            loads.now }
         requires empty { ranges.old.items ≡ [] }
         requires left { length loads.now ≤ vec_capacity ranges.old }
-        ensures filled { IsFilled config.now group.now None self.now buffer.old frames.now loads.now
-            buffer.new ranges.new.items }
+        ensures filled { IsFilled config.now group.now None self.now bytes.now free.old frames.now
+            loads.now free.new ranges.new.items }
         ensures capacity { vec_capacity ranges.old ≤ vec_capacity ranges.new }
     {
         if loads.is_empty() {
             return;
         }
         let parts = HeaderParts::new(&config.publisher.id, group, self.made);
-        let (bytes, free) = buffer.split_at_mut(FRAMES_BYTES);
         let cargo = Cargo {
             bytes,
             frames,
@@ -86,23 +89,24 @@ impl Group {
         post_open(&parts, &cargo, loads, free, ranges);
     }
 
-    /// Makes the datagrams of these loads after the frames that stand in the buffer, each protected by the sender.
+    /// Makes the datagrams of these loads, of the frames that stand in these bytes, each protected by the sender.
     fn make_sealed(
         &self,
         config: &Config,
         group: &GroupPart,
         sender: &mut Sender,
-        buffer: &mut [u8],
+        bytes: &[u8],
         frames: &Frames,
         loads: &[Load],
+        free: &mut [u8],
         ranges: &mut Vec<Range>,
     )
-        requires may { MayFill config.now group.now (Some sender.old) self.now buffer.old frames.now
-            loads.now }
+        requires may { MayFill config.now group.now (Some sender.old) self.now bytes.now free.old
+            frames.now loads.now }
         requires empty { ranges.old.items ≡ [] }
         requires left { length loads.now ≤ vec_capacity ranges.old }
-        ensures filled { IsFilled config.now group.now (Some sender.old) self.now buffer.old
-            frames.now loads.now buffer.new ranges.new.items }
+        ensures filled { IsFilled config.now group.now (Some sender.old) self.now bytes.now free.old
+            frames.now loads.now free.new ranges.new.items }
         ensures capacity { vec_capacity ranges.old ≤ vec_capacity ranges.new }
         ensures sender { sender.new
             ≡ advanced_by (mode_of group.now.security) sender.old (length loads.now) }
@@ -111,7 +115,6 @@ impl Group {
             return;
         }
         let parts = HeaderParts::new(&config.publisher.id, group, self.made);
-        let (bytes, free) = buffer.split_at_mut(FRAMES_BYTES);
         let cargo = Cargo {
             bytes,
             frames,

@@ -1,4 +1,4 @@
-//! The frames of a turn, as they are spelled in the buffer.
+//! The frames of a turn, as they are spelled.
 ghost use Rattle.std.specs.Prelude.{◌≡◌, ◌<◌, ◌≤◌, ◌+◌, ◌-◌, ◌*◌, ◌∷◌, ◌++◌, ℕ, List, [], length};
 ghost use Rattle.std.specs.Int.{w16, to_le_bytes};
 ghost use Rattle.ua_binary.specs.Writing.{laid, Puts};
@@ -7,6 +7,7 @@ ghost use Rattle.row_words.specs.Belonging.{Belongs, row_in};
 ghost use Rattle.dataset_meta.specs.declared.field.Field.{Field as AnyField};
 ghost use Rattle.fixed_layout.specs.Spelling.{raw_row};
 ghost use Rattle.frame_codec.specs.Words.{IsFrameOf, IsKindOf, content_in, frame_in};
+ghost use Rattle.writer_group.specs.Limits.{longest_frame};
 ghost use Rattle.writer_group.specs.Payloads.{laid_frame, raw_content, raw_frame};
 
 use dataset_meta::Meta;
@@ -15,9 +16,6 @@ use frame_codec::{Frame, FrameKind, write_frame, write_front};
 use ps_config::{Layout, WriterPart};
 use row_words::Row;
 use ua_binary::Pen;
-
-/// The bytes in front of the buffer in which frames are spelled: as many as 16 frames have at most.
-pub(crate) const FRAMES_BYTES: usize = 32_768;
 
 /// Where a frame stands.
 #[derive(Clone, Copy, Debug, Default, PartialEq, Eq)]
@@ -108,7 +106,7 @@ impl Frames {
         requires frame { IsFrameOf meta.now frame.now }
         requires spelled { AreSpelledIn bytes.old self.old }
         requires few { length (listed self.old) < 16 }
-        requires room { FRAMES_BYTES ≤ length bytes.old }
+        requires room { longest_frame * (length (listed self.old) + 1) ≤ length bytes.old }
         ensures spelled { AreSpelledIn bytes.new self.new }
         ensures added { frames_at bytes.new self.new ≡ frames_at bytes.old self.old
             ++ spelled_words layout writer part.now meta.now frame.now ∷ [] }

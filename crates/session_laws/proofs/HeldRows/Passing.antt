@@ -46,7 +46,7 @@ pub record IsPassOf (s : SenderState) (index : ℕ) (pass : Pass1) : Type 0 wher
   pub token : pass.token ≡ s.keys.token
   pub number : pass.number ≡ s.used + suc index
 
-opened-pass : (layout : Layout) (e : Envelope) (s : SenderState) (index : ℕ) (payloads : List Payload) (k : ℕ) (opened : Opened) → slice_get (opened_from layout e (Some s) index payloads) k ≡ Some opened → IsPassOf s (index + k) opened.pass
+pub opened-pass : (layout : Layout) (e : Envelope) (s : SenderState) (index : ℕ) (payloads : List Payload) (k : ℕ) (opened : Opened) → slice_get (opened_from layout e (Some s) index payloads) k ≡ Some opened → IsPassOf s (index + k) opened.pass
 opened-pass layout e s index [] k opened at = absurd (cc)
 opened-pass layout e s index (payload ∷ payloads) zero opened at =
     let mode = mode_of e.settings.security in

@@ -56,15 +56,15 @@ of-answer writer meta now answered (Whole place row) is major = record { placed 
 of-answer writer meta now answered (Change place patch) is major = record { placed = Change place patch; answer = is; own = own-major writer.versions meta.major now.major major; number = refl; content = refl }
 of-answer writer meta now answered (Alive next) is major = record { placed = Alive next; answer = is; own = own-major writer.versions meta.major now.major major; number = refl; content = refl }
 
-loud-of : (writer : WriterPart) (meta now : MetaData) (placed : PlacedFrame) → ¬ ((frame_cut meta (carried_frame writer now placed)).content ≡ frames.Alive) → is_silent placed ≡ false
+pub loud-of : (writer : WriterPart) (meta now : MetaData) (placed : PlacedFrame) → ¬ ((frame_cut meta (carried_frame writer now placed)).content ≡ frames.Alive) → is_silent placed ≡ false
 loud-of writer meta now (Whole place row) not_alive = refl
 loud-of writer meta now (Change place patch) not_alive = refl
 loud-of writer meta now (Alive next) not_alive = absurd (not_alive refl)
 
-of-read : {X F : Type 0} (P : X → Type 0) (read : Result X F) (x : X) → read ≡ Ok x → P x → OfRead P read
+pub of-read : {X F : Type 0} (P : X → Type 0) (read : Result X F) (x : X) → read ≡ Ok x → P x → OfRead P read
 of-read P read x e is = subst (OfRead P) (sym e) is
 
-of-err : {X F : Type 0} (P : X → Type 0) (read : Result X F) → IsErr read → OfRead P read
+pub of-err : {X F : Type 0} (P : X → Type 0) (read : Result X F) → IsErr read → OfRead P read
 of-err P (Ok x) e = absurd (cc)
 of-err P (Err fault) e = tt
 

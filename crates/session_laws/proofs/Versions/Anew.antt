@@ -28,7 +28,7 @@ use Rattle.session_laws.proofs.Versions.Tokens.{fresh-where, rekey-fresh}
 
 -- ---- a refreshed writer's next turn is fresh
 
-fresh-is : (w : ℕ) (past : List GroupDeed) → is_refreshed w past ≡ true → is_fresh (writer_past w past) ≡ true
+pub fresh-is : (w : ℕ) (past : List GroupDeed) → is_refreshed w past ≡ true → is_fresh (writer_past w past) ≡ true
 fresh-is w [] e = refl
 fresh-is w (RefreshedWriter other ∷ before) e = on (other == w) (fresh-is w before) e
   where
@@ -201,7 +201,7 @@ same-writer s w test past writers =
     on true later = refl
     on false later = refl
 
-answers-of : (config : Config) (k g w : ℕ) (list : List Deed) → map (λ turn. turn.answered) (keyed_turns config k g w list) ≡ cadence (settings_at (group_at config g) w) (writer_past w (group_past config g list))
+pub answers-of : (config : Config) (k g w : ℕ) (list : List Deed) → map (λ turn. turn.answered) (keyed_turns config k g w list) ≡ cadence (settings_at (group_at config g) w) (writer_past w (group_past config g list))
 answers-of config k g w [] = refl
 answers-of config k g w (RefreshedBelow component ∷ before) =
     answers-of config k g w before

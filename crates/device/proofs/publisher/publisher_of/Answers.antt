@@ -4,6 +4,7 @@ use Rattle.dataset_meta.specs.Metas.{MetaData}
 use Rattle.ps_config.specs.declared.parts.KeyGroupPart.{KeyGroupPart}
 use Rattle.writer_group.specs.Standing.{AreRowsOf}
 use Rattle.device.specs.Sides.{IsConfiguredRing, IsOpeningSender}
+use Rattle.device.proofs.Placing.{placed-opening}
 use Rattle.device.proofs.Rings.{rings-opening}
 use Rattle.device.proofs.publisher.publisher_of.Goals as goal
 
@@ -20,7 +21,8 @@ returns-clause-publisher c =
       rings_are = rings-opening c.args.config.keygroup senders rings (subst (λ (l : List KeyGroupPart). AllZip IsOpeningSender l senders) c.as_slice-2.ensures c.in_ok-senders.ensures.opening)
           (subst (λ (l : List KeyGroupPart). AllZip IsConfiguredRing l rings) c.as_slice-3.ensures c.in_ok-rings.ensures.opening);
       sides_are = c.in_ok-sides.ensures.sides;
-      reserved = c.in_ok-out.ensures.reserved;
+      places = placed-opening c.args.config c.in_ok-sides.sides.items c.in_ok-sides.ensures.opening;
+      reserved = c.in_ok-out.ensures.room;
       made_is = sym (ap (λ (l : List (List ℕ)). length l) c.in_ok-out.ensures.none);
       handed_is = omega arith;
     }

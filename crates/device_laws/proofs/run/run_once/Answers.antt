@@ -34,7 +34,7 @@ returns-in-Some c =
           set_is = c.set.ensures.publisher;
           now = c.args.now;
           came = c.come_to.new.self;
-          comes = comes;
+          comes = record { comes = comes; store = c.come_to.ensures.store };
           came_is = c.come_to.ensures.publisher;
           waits = c.come_to.ensures.waits next;
           reads = c.in_ok-subscriber.subscriber;

@@ -1,4 +1,4 @@
-use Rattle.std.proofs.Common.{ℕ, ◌++◌, List, ap, drop, subst, sym, ◌∙◌}
+use Rattle.std.proofs.Common.{ℕ, ◌++◌, List, refl, ap, drop, subst, sym, ◌∙◌}
 use Rattle.uapubsub_c.specs.Laying.{IsLaidOut}
 use Rattle.uapubsub_c.proofs.publishing.next.Goals as goal
 
@@ -12,6 +12,7 @@ returns-else-datagram-buffer-clause-comes c =
     record {
       mid = c.come_to.new.self;
       comes = record { waited = c.in-Datagram.ensures.waited; came = c.in-Datagram.ensures.came };
+      may = c.if-not-may_hand_over.ensures.may;
       laid = subst (λ (bytes : List ℕ). IsLaidOut bytes c.args.buffer.now c.lay.new.buffer c.lay.result) c.datagram-datagram.ensures laid;
       handed = c.hand_over.ensures.handed;
     }

@@ -5,8 +5,9 @@ use Rattle.std.specs.Vec.{with_items}
 use Rattle.std.proofs.lemmas.List.{with_items_is}
 use Rattle.message_guard.specs.Senders.{IsSender, SenderState}
 use Rattle.device.specs.Coming.{Comes, IsRefreshedFor, turned_to}
-use Rattle.device.specs.Sides.{HasRing, IsSide}
+use Rattle.device.specs.Sides.{ArePlaced, HasRing, IsSide}
 use Rattle.device.specs.declared.side.Side.{Side}
+use Rattle.device.proofs.Placing.{placed-refreshed}
 use Rattle.device.proofs.Rings.{rings-turned}
 use Rattle.device.proofs.publisher.Publisher.come_to.Goals as goal
 use Rattle.device.proofs.publisher.Publisher.come_to.Goals.{After-turn_senders}
@@ -40,6 +41,8 @@ turn_due-requires-clause-publisher c =
           (sym (senders ∙ c.turn_senders.ensures.state ∙ ap (λ (l : List SenderState). turned_to c.args.now l) c.deref_mut-2.ensures.value))
           (rings-turned c.args.now self.senders.items self.rings.items c.requires.rings_are);
       sides_are = subst (λ (l : List Side). All (IsSide self.config) l) (sym sides) c.turn_senders.ensures.sides;
+      places = subst ArePlaced (sym sides) (placed-refreshed self.config c.args.now c.deref_mut-2.result.now c.deref_mut.result.now c.turn_senders.new.sides c.turn_senders.ensures.refreshed
+          (subst ArePlaced (sym c.deref_mut.ensures.value) c.requires.places));
       reserved = c.requires.reserved;
       made_is = c.requires.made_is;
       handed_is = c.requires.handed_is;

@@ -10,9 +10,10 @@ use Rattle.message_guard.specs.Senders.{IsSender, SenderState}
 use Rattle.ps_config.specs.declared.parts.KeyGroupPart.{KeyGroupPart}
 use Rattle.device.specs.Coming.{HasOtherToken}
 use Rattle.device.specs.Resuming.{IsRefreshedWith, WouldRepeat}
-use Rattle.device.specs.Sides.{IsNoLess, IsNoLower, IsResumed, IsSide}
+use Rattle.device.specs.Sides.{ArePlaced, IsNoLess, IsNoLower, IsResumed, IsSide}
 use Rattle.device.specs.declared.side.Side.{Side}
 use Rattle.device.proofs.Places.{holds-at, put-at}
+use Rattle.device.proofs.Placing.{placed-with}
 use Rattle.device.proofs.Refreshing.{refreshed-told}
 use Rattle.device.proofs.Rings.{rings-count, rings-set}
 use Rattle.device.proofs.publisher.Publisher.go_on.Goals as goal
@@ -112,6 +113,9 @@ returns-clause-publisher c =
       rings_are = rings-set c.args.self.now.senders.items c.args.self.now.rings.items c.from-index.result c.sender_with-sender.result c.copy_of-copy.result
           (c.copy_of-copy.ensures ∙ sym c.sender_with-sender.ensures.resumed.sets_are) r.rings_are;
       sides_are = subst (λ (l : List Side). All (IsSide c.args.self.now.config) l) (sym (sides-kept (goal.at.returns-clause-publisher c).After-refresh_with)) c.refresh_with.ensures.sides;
+      places = subst ArePlaced (sym (sides-kept (goal.at.returns-clause-publisher c).After-refresh_with))
+          (placed-with c.args.self.now.config c.args.keygroup (IsTrue (not (c.standing-new.result.0 == c.standing-old.result.0))) c.deref_mut.result.now c.refresh_with.new.sides c.refresh_with.ensures.refreshed
+          (subst ArePlaced (sym c.deref_mut.ensures.value) r.places));
       reserved = r.reserved;
       made_is = r.made_is;
       handed_is = r.handed_is;

@@ -7,8 +7,10 @@ use Rattle.std.proofs.lemmas.List.Elements.{All-set}
 use Rattle.message_guard.specs.Senders.{IsSender, SenderState}
 use Rattle.device.specs.Looking.{IsFrom}
 use Rattle.device.specs.Sides.{HasRing, IsSide}
+use Rattle.device.specs.declared.publisher.Publisher.{Publisher}
 use Rattle.device.specs.declared.side.Side.{Side}
-use Rattle.device.proofs.Looks.{looked-publisher, looked-so}
+use Rattle.device.proofs.Looks.{did-index, looked-publisher, looked-so}
+use Rattle.device.proofs.Placing.{placed-set}
 use Rattle.device.proofs.Rings.{rings-left}
 use Rattle.device.proofs.publisher.Publisher.look_at.Goals as goal
 use Rattle.device.proofs.publisher.Publisher.look_at.Goals.{After-count}
@@ -41,4 +43,10 @@ returns-clause-publisher c =
     (subst (λ (l : List SenderState). AllZip HasRing l self.rings.items) (sym senders)
     (rings-left look.result self.config c.index_mut.result.now.index c.deref_mut.result.now look.new.senders self.rings.items look.ensures.numbers
     (subst (λ (l : List SenderState). AllZip HasRing l self.rings.items) (sym c.deref_mut.ensures.value) c.requires.publisher.rings_are)))
-    (All-set (IsSide self.config) self.sides.items c.args.index look.new.side look.ensures.side c.requires.publisher.sides_are) look.ensures.reserved
+    (All-set (IsSide self.config) self.sides.items c.args.index look.new.side look.ensures.side c.requires.publisher.sides_are)
+    (placed-set self.sides.items c.args.index c.index_mut.result.now look.new.side c.requires.index c.index_mut.ensures.value
+    (did-index self.config c.args.now c.deref.result.now c.deref_mut.result.now look.new.out look.result c.index_mut.result.now look.new.side look.ensures.did) c.requires.publisher.places)
+    look.ensures.reserved
+
+pub returns-clause-store : goal.returns-clause-store
+returns-clause-store c = ap (λ (p : Publisher). p.store) c.count.ensures.rest

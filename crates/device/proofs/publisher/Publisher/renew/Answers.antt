@@ -26,6 +26,7 @@ returns-clause-publisher c =
       senders_count = length-set self.senders.items k c.renew.new.self ∙ r.senders_count;
       rings_are = rings-set self.senders.items self.rings.items k c.renew.new.self c.copy_of.result (c.copy_of.ensures ∙ sym (ap (λ (s : SenderState). s.sets) c.renew.ensures.state)) r.rings_are;
       sides_are = r.sides_are;
+      places = r.places;
       reserved = r.reserved;
       made_is = r.made_is;
       handed_is = r.handed_is;

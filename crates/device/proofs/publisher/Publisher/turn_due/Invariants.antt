@@ -10,6 +10,7 @@ invariant-loop-g l = record {
   none_waits : l.self.made ≤ l.self.handed;
   config : l.self.config ≡ l.fn.self.config;
   rows : l.self.rows.items ≡ l.fn.self.rows.items;
+  store : l.self.store ≡ l.fn.self.store;
   senders : l.self.senders.items ≡ l.fn.self.senders.items;
   count : length l.self.sides.items ≡ length l.fn.self.sides.items;
   far : SoFar (Does l.fn.self.config l.now l.fn.self.rows.items l.fn.self.senders.items) l.g l.held l.fn.self.sides.items l.self.sides.items;

@@ -1,7 +1,8 @@
 use Rattle.std.proofs.Common.{List, refl, subst, sym}
 use Rattle.std.specs.Prelude.{Bool, false, None}
 use Rattle.dataset_meta.specs.Metas.{MetaData}
-use Rattle.writer_group.specs.Standing.{HasTickedAt, MayTickAt, input_of}
+use Rattle.writer_group.specs.Needs.{need_with}
+use Rattle.writer_group.specs.Standing.{HasRoomFor, HasTickedAt, MayTickAt, input_of}
 use Rattle.std.proofs.lemmas.Bool.{false≢true}
 use Rattle.device.proofs.side.Side.turn_plain.Goals as goal
 
@@ -11,12 +12,12 @@ returns-clause-turned c =
     let moment = c.args.moment in
     let rows = c.args.rows.now in
     let old = c.args.self.now.group in
-    let by_on = subst (λ (on : List Bool). HasTickedAt config (input_of moment false c.as_slice-metas.result.now rows on None) old c.tick.new.self c.tick.new.out)
-    c.deref-2.ensures.value c.tick.ensures.stands in
+    let by_on = subst (λ (on : List Bool). HasTickedAt config (input_of moment false c.as_slice-metas.result.now rows on None) old c.tick_within.new.self c.tick_within.new.out)
+    c.deref-2.ensures.value c.tick_within.ensures.stands in
     record {
-      stands = subst (λ (metas : List MetaData). HasTickedAt config (input_of moment false metas rows c.args.self.now.on.items None) old c.tick.new.self c.tick.new.out)
+      stands = subst (λ (metas : List MetaData). HasTickedAt config (input_of moment false metas rows c.args.self.now.on.items None) old c.tick_within.new.self c.tick_within.new.out)
           c.as_slice-metas.ensures by_on;
-      made_is = c.tick.ensures.count;
+      made_is = c.tick_within.ensures.count;
       on = refl;
       index = refl;
     }
@@ -26,3 +27,11 @@ returns-then-not-may_tick-clause-may_not c =
     let config = c.args.config.now in
     λ may. false≢true (c.if-not-may_tick.ensures.1
     (subst (λ (on : List Bool). MayTickAt config config.dataset c.args.rows.now on None c.args.self.now.group) (sym c.deref.ensures.value) may))
+
+pub returns-clause-reserved : goal.returns-clause-reserved
+returns-clause-reserved c =
+    let config = c.args.config.now in
+    let room : HasRoomFor config c.as_slice-metas.result.now c.args.out.now =
+    subst (λ (metas : List MetaData). HasRoomFor config metas c.args.out.now) (sym c.as_slice-metas.ensures) c.requires.reserved in
+    subst (λ (metas : List MetaData). HasRoomFor config metas c.tick_within.new.out) c.as_slice-metas.ensures
+    (c.tick_within.ensures.room (need_with config c.as_slice-metas.result.now) room)

@@ -24,6 +24,8 @@ loop-g-preserved c =
       subscriber = record {
         good = invariant.subscriber.good;
         groups_are = All-set (IsListening subscriber.config) subscriber.groups.items c.loop-g.g c.expire.new.self c.expire.ensures.listening invariant.subscriber.groups_are;
+        few = omega (arith, invariant.subscriber.few, length-set subscriber.groups.items c.loop-g.g c.expire.new.self);
+        room = invariant.subscriber.room;
       };
       config = invariant.config;
       count = length-set subscriber.groups.items c.loop-g.g c.expire.new.self ∙ invariant.count;

@@ -6,18 +6,16 @@ use Rattle.writer_group.specs.Answering.{HaveAnswered, MayGo}
 use Rattle.writer_group.specs.Holding.{frames_at}
 use Rattle.writer_group.specs.Making.{spelled_in}
 use Rattle.writer_group.specs.Turns.{told_of}
-use Rattle.writer_group.proofs.SpelledOut.{WereSpelled, are-spelled, spelled-out, spelled_out}
+use Rattle.writer_group.proofs.SpelledOut.{WereSpelled, are-spelled, spelled-out, spelled-room, spelled_out}
 use Rattle.writer_group.proofs.group.Group.answer.Goals as goal
 use Rattle.writer_group.proofs.group.Group.answer.Goals.{After-answer_all}
 
 spelled : (c : After-answer_all) → WereSpelled c.args.group.now c.args.metas.now c.args.on.now c.forget.new.self c.answer_all.new.bytes c.answer_all.new.frames
 spelled c = record {
-  reserved = c.forget.ensures.reserved;
   no_loads = c.forget.ensures.loads;
   no_ranges = c.forget.ensures.ranges;
   long = omega arith;
   on_are = c.requires.may.on_are;
-  most = c.requires.may.few;
   few = c.answer_all.ensures.few;
   spelled = c.answer_all.ensures.spelled;
   answers = c.answer_all.ensures.answers;
@@ -48,3 +46,7 @@ pub returns-clause-spelled : goal.returns-clause-spelled
 returns-clause-spelled c =
     let r = (goal.at.returns-clause-spelled c).After-answer_all in
     are-spelled c.args.group.now c.args.metas.now c.args.on.now c.forget.new.self c.answer_all.new.bytes c.answer_all.new.frames (spelled r)
+
+pub returns-clause-room : goal.returns-clause-room
+returns-clause-room c = λ need before.
+    spelled-room c.forget.new.self c.answer_all.new.bytes c.answer_all.new.frames need (c.forget.ensures.room need before)

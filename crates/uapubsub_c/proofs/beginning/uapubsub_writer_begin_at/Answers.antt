@@ -1,0 +1,12 @@
+use Rattle.std.proofs.Common.{of_calls}
+use Rattle.uapubsub_c.specs.Beginning.{BeginsWriter}
+use Rattle.uapubsub_c.proofs.Answering.{calls-publisher}
+use Rattle.uapubsub_c.proofs.beginning.uapubsub_writer_begin_at.Goals as goal
+
+pub publisher-requires-clause-moving : goal.publisher-requires-clause-moving
+publisher-requires-clause-moving c = record { callable = λ shown sound. search of_calls; leaves = λ old answer new sound moved. search of_calls }
+
+pub returns : goal.returns
+returns c =
+    calls-publisher _ (BeginsWriter c.args.group c.args.writer c.args.number) (λ old answer new moved. search of_calls) c.args.handle.now c.publisher.result c.number_of.result c.publisher.new.self
+    c.publisher.ensures c.number_of.ensures
